@@ -1,0 +1,2 @@
+-- Theorems about the rules.
+pub mod Examples

@@ -1,0 +1,127 @@
+-- 01, "Rights and fees": the thirteen rights, the sixteen calls in call order, their fees, and the right each asks.
+use Prim.Native.Nat.{ℕ, zero, suc}
+use mathlib.Core.Bool.{Bool, true, false}
+use mathlib.Core.List.{List, [], _∷_}
+use lib.Dec.{eqb}
+use lib.ListN.{getD}
+use lib.Bits.{bitAnd}
+
+-- ---- rights add up, 0 to 8191
+
+abbrev pub READ : ℕ
+READ = 1
+
+abbrev pub WRITE : ℕ
+WRITE = 2
+
+abbrev pub CAP-INFO : ℕ
+CAP-INFO = 4
+
+abbrev pub DERIVE-CAP : ℕ
+DERIVE-CAP = 8
+
+abbrev pub DELETE-CAP : ℕ
+DELETE-CAP = 16
+
+abbrev pub RENAME-OBJ : ℕ
+RENAME-OBJ = 32
+
+abbrev pub WITHDRAW : ℕ
+WITHDRAW = 64
+
+abbrev pub DEPOSIT : ℕ
+DEPOSIT = 128
+
+abbrev pub SUSPEND : ℕ
+SUSPEND = 256
+
+abbrev pub RESUME : ℕ
+RESUME = 512
+
+abbrev pub APPLY-LOCK : ℕ
+APPLY-LOCK = 1024
+
+abbrev pub SEND : ℕ
+SEND = 2048
+
+abbrev pub REVIVE : ℕ
+REVIVE = 4096
+
+-- the rights hold this right
+unfoldable pub has : ℕ → ℕ → Bool
+has rights right = eqb (bitAnd rights right) right
+
+-- the rights in both sets
+unfoldable pub both : ℕ → ℕ → ℕ
+both a b = bitAnd a b
+
+-- ---- calls, in call order 1 to 16
+
+pub data Op : Type 0 where
+  makeObj read write capInfo deriveCap deleteCap renameObj withdraw : Op
+  deposit suspend resume applyLock send receive wait revive : Op
+  -- any other number
+  unknown : Op
+
+unfoldable pub op : ℕ → Op
+op number = getD
+    (unknown
+    ∷ makeObj ∷ read ∷ write ∷ capInfo
+    ∷ deriveCap ∷ deleteCap ∷ renameObj ∷ withdraw
+    ∷ deposit ∷ suspend ∷ resume ∷ applyLock
+    ∷ send ∷ receive ∷ wait ∷ revive ∷ [])
+    number unknown
+
+-- the sixteen fees, in call order
+unfoldable pub fees : List ℕ
+fees = 20 ∷ 1 ∷ 2 ∷ 1 ∷ 5 ∷ 5 ∷ 10 ∷ 2 ∷ 2 ∷ 1 ∷ 1 ∷ 5 ∷ 2 ∷ 1 ∷ 0 ∷ 5 ∷ []
+
+-- the fee of a call: the table at the call's number less one
+unfoldable pub feeOf : ℕ → ℕ
+feeOf zero = 0
+feeOf (suc n) = getD fees n 0
+
+-- the right asked of the capability presented, 0 where none is presented
+unfoldable pub asked : Op → ℕ
+asked makeObj = 0
+asked read = READ
+asked write = WRITE
+asked capInfo = CAP-INFO
+asked deriveCap = DERIVE-CAP
+asked deleteCap = DELETE-CAP
+asked renameObj = RENAME-OBJ
+asked withdraw = WITHDRAW
+asked deposit = DEPOSIT
+asked suspend = SUSPEND
+asked resume = RESUME
+asked applyLock = APPLY-LOCK
+asked send = SEND
+asked receive = 0
+asked wait = 0
+asked revive = REVIVE
+asked unknown = 0
+
+-- the call presents a capability
+unfoldable pub presents : Op → Bool
+presents makeObj = false
+presents read = true
+presents write = true
+presents capInfo = true
+presents deriveCap = true
+presents deleteCap = true
+presents renameObj = true
+presents withdraw = true
+presents deposit = true
+presents suspend = true
+presents resume = true
+presents applyLock = true
+presents send = true
+presents receive = false
+presents wait = false
+presents revive = true
+presents unknown = false
+
+-- a theorem that computes with this file's definitions says `unfolding` and this name
+unfoldable pub computes : Unit {0}
+unfolding has both op fees feeOf asked presents
+computes = tt

@@ -1,0 +1,213 @@
+-- 01, "A script and its output", in numbers: a line as a call, the numbers that an answer writes, and a run to the `T`
+-- line. How the numbers stand in bytes is the script program's own.
+use Prim.Native.Nat.{ℕ, _+_, _-_}
+use mathlib.Core.Bool.{Bool, true, false, not, _&&_}
+use mathlib.Core.List.{List, [], _∷_, _++_}
+use lib.Dec.{eqb, leb, ltb}
+use lib.ListN.{length, drop, getD}
+use Rattle.rules.specs.Slots as Slots
+use Rattle.rules.specs.Store as Store
+use Rattle.rules.specs.Rights as Rights
+use Rattle.rules.specs.Call as Call
+use Rattle.rules.specs.Password as Password
+use Rattle.rules.specs.Refusals as Refusals
+use Rattle.rules.specs.Update as Update
+use Rattle.rules.specs.Changes as Changes
+use Rattle.rules.specs.Calls as Calls
+use Rattle.rules.specs.Rule as Rule
+use Rattle.rules.specs.Slots.{find, any}
+use Rattle.rules.specs.Store.{Name, Password, State, capLives, allCash, allMasters, allBoxes, fresh}
+use Rattle.rules.specs.Rights.{Op, makeObj, read, write, capInfo, deriveCap, deleteCap, renameObj, withdraw}
+use Rattle.rules.specs.Rights.{deposit, suspend, resume, applyLock, send, receive, wait, revive, unknown, op}
+use Rattle.rules.specs.Rights.{presents}
+use Rattle.rules.specs.Call.{Call, Capability, Answer, Outcome, Choice, code}
+use Rattle.rules.specs.Rule.{rule}
+
+-- ---- a line: call number, caller's volume and serial, the capability (volume, serial, p1, p2) where one is presented,
+-- then arguments
+
+-- bytes are 0 to 255
+unfoldable pub areBytes : List ℕ → Bool
+areBytes l = not (any (λ b. ltb 255 b) l)
+
+-- a line of the call has so many numbers
+unfoldable pub lineFits : Op → List ℕ → Bool
+-- volume, size, flag, rights, serial, p1, p2
+lineFits makeObj l = eqb (length l) 10
+-- start, end
+lineFits read l = eqb (length l) 9
+-- the same and bytes
+lineFits write l = leb 9 (length l) && areBytes (drop 9 l)
+lineFits capInfo l = eqb (length l) 7
+-- mask, start, end, p1, p2
+lineFits deriveCap l = eqb (length l) 12
+lineFits deleteCap l = eqb (length l) 7
+-- p1, p2
+lineFits renameObj l = eqb (length l) 9
+-- sum
+lineFits withdraw l = eqb (length l) 8
+lineFits deposit l = eqb (length l) 8
+lineFits suspend l = eqb (length l) 7
+lineFits resume l = eqb (length l) 7
+-- two words
+lineFits applyLock l = eqb (length l) 9
+-- sum, bytes
+lineFits send l = leb 8 (length l) && areBytes (drop 8 l)
+lineFits receive l = eqb (length l) 3
+lineFits wait l = eqb (length l) 3
+-- sum
+lineFits revive l = eqb (length l) 8
+lineFits unknown l = false
+
+-- the i-th number of a list, counted from 0
+abbrev pub nth : List ℕ → ℕ → ℕ
+nth l i = getD l i 0
+
+-- a call with these arguments: made is volume, size, flag, rights, serial, p1, p2; range is start, end; lock two words
+unfoldable pub callWith : List ℕ → List ℕ → List ℕ → ℕ → List ℕ → List ℕ → Call
+callWith line made range sum lock bytes = record {
+  number = nth line 0;
+  caller = record { volume = nth line 1; serial = nth line 2 };
+  presented = record {
+    name = record { volume = nth line 3; serial = nth line 4 };
+    password = record { p1 = nth line 5; p2 = nth line 6 };
+  };
+  name = record { volume = nth made 0; serial = nth made 4 };
+  size = nth made 1;
+  flag = nth made 2;
+  rights = nth made 3;
+  drawn = record { p1 = nth made 5; p2 = nth made 6 };
+  range = record { start = nth range 0; end = nth range 1 };
+  sum = sum;
+  lock = record { first = nth lock 0; second = nth lock 1 };
+  bytes = bytes;
+  buffer = 256;
+  scratch = 512;
+}
+
+-- the call that a line of fitting length says
+unfoldable pub callOf : Op → List ℕ → Call
+callOf makeObj l = callWith l (drop 3 l) [] 0 [] []
+callOf read l = callWith l [] (drop 7 l) 0 [] []
+callOf write l = callWith l [] (drop 7 l) 0 [] (drop 9 l)
+callOf capInfo l = callWith l [] [] 0 [] []
+callOf deriveCap l = callWith l (0 ∷ 0 ∷ 0 ∷ nth l 7 ∷ 0 ∷ drop 10 l) (drop 8 l) 0 [] []
+callOf deleteCap l = callWith l [] [] 0 [] []
+callOf renameObj l = callWith l (0 ∷ 0 ∷ 0 ∷ 0 ∷ 0 ∷ drop 7 l) [] 0 [] []
+callOf withdraw l = callWith l [] [] (nth l 7) [] []
+callOf deposit l = callWith l [] [] (nth l 7) [] []
+callOf suspend l = callWith l [] [] 0 [] []
+callOf resume l = callWith l [] [] 0 [] []
+callOf applyLock l = callWith l [] [] 0 (drop 7 l) []
+callOf send l = callWith l [] [] (nth l 7) [] (drop 8 l)
+callOf receive l = callWith l [] [] 0 [] []
+callOf wait l = callWith l [] [] 0 [] []
+callOf revive l = callWith l [] [] (nth l 7) [] []
+callOf unknown l = callWith l [] [] 0 [] []
+
+-- ---- the numbers of an answer: 0 or the refusal, then results
+
+unfoldable pub written : Capability → List ℕ
+written x = x .name .volume ∷ x .name .serial ∷ x .password .p1 ∷ x .password .p2 ∷ []
+
+-- a new capability; bytes; length and moneyword; sum and bytes
+unfoldable pub results : Op → Answer → List ℕ
+results makeObj a = written (a .capability)
+results read a = a .bytes
+results write a = []
+results capInfo a = a .length ∷ a .moneyword ∷ []
+results deriveCap a = written (a .capability)
+results deleteCap a = []
+results renameObj a = written (a .capability)
+results withdraw a = []
+results deposit a = []
+results suspend a = []
+results resume a = []
+results applyLock a = []
+results send a = []
+results receive a = a .sum ∷ a .bytes
+results wait a = []
+results revive a = []
+results unknown a = []
+
+unfoldable pub answerOf : Op → Answer → List ℕ
+answerOf o a = elim (eqb (a .code) 0) [ true ↦ 0 ∷ results o a | false ↦ a .code ∷ [] ]
+
+-- ---- a run
+
+-- one way to take what is open: the last free object and the last free capability
+unfoldable pub lastFree : State → Choice
+lastFree s = record {
+  object = find 64 (λ o. not (s .object o .live));
+  cap = find 512 (λ i. not (capLives s i));
+}
+
+-- a bad line is answered 2 and changes nothing
+unfoldable pub lineRule : State → List ℕ → Outcome
+lineRule s l = elim (lineFits (op (nth l 0)) l) [
+  | true ↦ rule s (callOf (op (nth l 0)) l) (lastFree s)
+  | false ↦ record { answer = code 2; after = s }
+]
+
+-- cash, masters' moneywords, box sums, house
+unfoldable pub totals : State → List ℕ
+totals s = allCash s ∷ allMasters s ∷ allBoxes s ∷ s .house ∷ []
+
+-- the answers to the lines, and last the totals
+unfoldable pub play : State → List (List ℕ) → List (List ℕ)
+play s [] = totals s ∷ []
+play s (l ∷ ls) =
+    let r : Outcome = lineRule s l in
+    answerOf (op (nth l 0)) (r .answer) ∷ play (r .after) ls
+
+-- ---- examples: line one, the other lines, and what is written for them
+
+pub record Example : Type 0 where
+  pub supply : ℕ
+  pub p1 : ℕ
+  pub p2 : ℕ
+  pub lines : List (List ℕ)
+  pub answers : List (List ℕ)
+  pub totals : List ℕ
+
+-- what the rules write
+unfoldable pub writes : Example → List (List ℕ)
+writes e = play (fresh (e .supply) (record { p1 = e .p1; p2 = e .p2 })) (e .lines)
+
+-- what the example says
+unfoldable pub says : Example → List (List ℕ)
+says e = e .answers ++ e .totals ∷ []
+
+-- 01's script
+unfoldable pub example : Example
+example = record {
+  supply = 1000;
+  p1 = 5;
+  p2 = 9;
+  lines =
+      (1 ∷ 0 ∷ 1 ∷ 2 ∷ 128 ∷ 0 ∷ 8191 ∷ 7 ∷ 11 ∷ 13 ∷ [])
+      ∷ (5 ∷ 0 ∷ 1 ∷ 2 ∷ 7 ∷ 11 ∷ 13 ∷ 3 ∷ 64 ∷ 500 ∷ 21 ∷ 22 ∷ [])
+      ∷ (2 ∷ 0 ∷ 1 ∷ 2 ∷ 7 ∷ 21 ∷ 22 ∷ 63 ∷ 65 ∷ [])
+      ∷ (9 ∷ 0 ∷ 1 ∷ 2 ∷ 7 ∷ 11 ∷ 13 ∷ 100 ∷ [])
+      ∷ (4 ∷ 0 ∷ 1 ∷ 2 ∷ 7 ∷ 21 ∷ 22 ∷ [])
+      ∷ (6 ∷ 0 ∷ 1 ∷ 2 ∷ 7 ∷ 11 ∷ 13 ∷ [])
+      ∷ (2 ∷ 0 ∷ 1 ∷ 2 ∷ 7 ∷ 21 ∷ 22 ∷ 64 ∷ 65 ∷ [])
+      ∷ [];
+  answers =
+      (0 ∷ 2 ∷ 7 ∷ 11 ∷ 13 ∷ [])
+      ∷ (0 ∷ 2 ∷ 7 ∷ 21 ∷ 22 ∷ [])
+      ∷ (7 ∷ [])
+      ∷ (0 ∷ [])
+      ∷ (6 ∷ [])
+      ∷ (0 ∷ [])
+      ∷ (5 ∷ [])
+      ∷ [];
+  totals = 865 ∷ 0 ∷ 0 ∷ 135 ∷ [];
+}
+
+-- a theorem that computes with the rules says `unfolding` and this name
+unfoldable pub computes : Unit {0}
+unfolding Slots.computes Store.computes Rights.computes Call.computes Password.computes Refusals.computes
+    Update.computes Changes.computes Calls.computes Rule.computes areBytes lineFits callWith callOf written
+    results answerOf lastFree lineRule totals play writes says example
+computes = tt

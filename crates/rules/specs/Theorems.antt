@@ -1,0 +1,58 @@
+-- What is proved about the rules besides demand 3, each statement by itself; proofs/Theorems.antt has the proofs.
+use Prim.Native.Nat.{ℕ, _<_}
+use mathlib.Core.Path.{_≡_}
+use mathlib.Core.Logic.{_≢_}
+use mathlib.Core.Bool.{Bool, true, false}
+use mathlib.Core.List.{List, [], _∷_, map}
+use Rattle.rules.specs.Store.{Password, State, moneyIn, fresh}
+use Rattle.rules.specs.Valid.{Valid}
+use Rattle.rules.specs.Call.{Call, Outcome, Choice, code}
+use Rattle.rules.specs.Refusals.{caller}
+use Rattle.rules.specs.Changes.{setTerminated}
+use Rattle.rules.specs.Rule.{paid, rule, isDone}
+use Rattle.rules.specs.Demand.{Words, FreshWords, Open, Allowed, Step, Legal, start}
+
+-- ---- every call keeps the store well formed, and the money total
+
+unfoldable pub FreshValid : Type 0
+FreshValid = (supply : ℕ) (p : Password) → FreshWords supply p → Valid (fresh supply p)
+
+unfoldable pub ValidKept : Type 0
+ValidKept = (s : State) (c : Call) (h : Choice) → Valid s → Allowed s c h → Valid (rule s c h .after)
+
+unfoldable pub MoneyKept : Type 0
+MoneyKept = (s : State) (c : Call) (h : Choice) → Valid s → Allowed s c h → moneyIn (rule s c h .after) ≡ moneyIn s
+
+-- ---- demand 1: what a refused call answers and leaves
+
+pub record Refused (s : State) (c : Call) (r : Outcome) : Type 0 where
+  -- a refusal's other result fields are 0
+  pub others : r .answer ≡ code (r .answer .code)
+  -- 2 and 3 change nothing
+  pub nothing : r .answer .code < 4 → r .after ≡ s
+  -- 4 marks the caller terminated
+  pub marks : r .answer .code ≡ 4 → r .after ≡ setTerminated s (caller s c) true
+  -- later ones move only the fee
+  pub fee : 4 < r .answer .code → r .after ≡ paid s c
+
+unfoldable pub RefusedLeaves : Type 0
+RefusedLeaves = (s : State) (c : Call) (h : Choice) → isDone (rule s c h) ≡ false → Refused s c (rule s c h)
+
+-- ---- runs exist
+
+-- whether a call is done, and its answer, do not depend on what is taken
+unfoldable pub AnswerFixed : Type 0
+AnswerFixed = (s : State) (c : Call) (h g : Choice) → rule s c h .answer ≡ rule s c g .answer
+
+-- where a call is done there is something free to take
+unfoldable pub ChoiceExists : Type 0
+ChoiceExists = (s : State) (c : Call) (h : Choice) → Valid s → isDone (rule s c h) ≡ true → (g : Choice) × Open s c g
+
+unfoldable pub AllWords : List Call → Type 0
+AllWords [] = Unit {0}
+AllWords (c ∷ l) = Words c × AllWords l
+
+-- every list of calls has a run from a fresh store
+unfoldable pub RunExists : Type 0
+RunExists = (supply : ℕ) (p : Password) → FreshWords supply p → (calls : List Call) → AllWords calls
+    → (l : List Step) × (map (λ x. x .call) l ≡ calls) × Legal (start supply p) l
