@@ -1,0 +1,9 @@
+// The kinds of value in a store's words, and what is asked of them: rights, cash and moneywords, passwords and lockwords,
+// fees, windows, blocks. Each function meets a definition of the rules for every input.
+pub mod blocks;
+pub mod cash;
+pub mod fees;
+pub mod moneyword;
+pub mod password;
+pub mod rights;
+pub mod window;
