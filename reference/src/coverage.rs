@@ -1,0 +1,258 @@
+//! Coverage of random checked runs: every answer of every call, and for each two refusals of a
+//! call's list the states where both hold, only the earlier, and only the later.
+
+use crate::call::{call_kind, Action, Call, Operation, CALLS};
+use crate::claims::CheckedRun;
+use crate::conditions::{holding, Condition};
+use crate::generate::Generator;
+use crate::kernel::{Object, Store};
+use crate::profiles::{Profile, PROFILES};
+use crate::random::Random;
+use crate::scenes::{scenes, SCENES};
+use std::collections::BTreeMap;
+use std::fmt::Write;
+
+/// The refusals of a call that can be met, in 01's order. Left out everywhere: 1, since a store
+/// over maps is always well formed; and 4 for wait, whose fee of 0 can always be paid. An
+/// unknown number stands under 0 and is always 2.
+pub fn refusals(call: u32) -> &'static [u32] {
+    match call {
+        0 => &[2],
+        1 => &[2, 3, 4, 12, 13],
+        2 | 3 => &[2, 3, 4, 5, 6, 7],
+        5 => &[2, 3, 4, 5, 6, 12, 13],
+        7 => &[2, 3, 4, 5, 6, 11, 12],
+        8 => &[2, 3, 4, 5, 6, 9],
+        9 => &[2, 3, 4, 5, 6, 9, 10],
+        10..=12 => &[2, 3, 4, 5, 6, 8],
+        13 => &[2, 3, 4, 5, 6, 8, 9, 14],
+        14 => &[2, 3, 4, 15],
+        15 => &[2, 3],
+        16 => &[2, 3, 4, 5, 6, 8, 16, 9],
+        _ => &[2, 3, 4, 5, 6],
+    }
+}
+
+/// How two refusals can hold.
+#[derive(Clone, Copy, Debug, PartialEq, Eq)]
+pub enum Hold {
+    Both,
+    OnlyEarlier,
+    OnlyLater,
+}
+
+const HOLDS: [Hold; 3] = [Hold::Both, Hold::OnlyEarlier, Hold::OnlyLater];
+
+/// What cannot be met: calls, the two refusals, and how they cannot hold.
+const UNREACHABLE: [(&[u32], u32, u32, Hold); 7] = [
+    // Without a capability there are no rights, no window, no place in the tree and no climb.
+    (&[2, 3, 4, 5, 6, 7, 8, 9, 10, 11, 12, 13, 16], 5, 6, Hold::Both),
+    (&[2, 3], 5, 7, Hold::Both),
+    (&[7], 5, 11, Hold::Both),
+    (&[8], 5, 9, Hold::Both),
+    (&[9], 5, 10, Hold::Both),
+    // A data object has no box.
+    (&[13], 8, 14, Hold::Both),
+    // wait has no argument but the caller's name, and a caller out of range is absent.
+    (&[15], 2, 3, Hold::OnlyEarlier),
+];
+
+fn reachable(call: u32, pair: (u32, u32), hold: Hold) -> bool {
+    !UNREACHABLE
+        .iter()
+        .any(|(calls, a, b, how)| calls.contains(&call) && (*a, *b) == pair && *how == hold)
+}
+
+/// The largest of each kind that a run reached.
+#[derive(Clone, Copy, Debug, Default)]
+pub struct Peaks {
+    pub objects: usize,
+    pub capabilities: usize,
+    pub blocks: u32,
+    /// The longest climb, the capability and its master counted.
+    pub depth: usize,
+    /// The most children of one capability.
+    pub children: usize,
+}
+
+impl Peaks {
+    /// Takes note of a store after a done call.
+    fn note(&mut self, store: &Store, call: &Call) {
+        self.objects = self.objects.max(store.objects.len());
+        self.capabilities = self.capabilities.max(store.capabilities.len());
+        self.blocks = self.blocks.max(store.used_blocks());
+        if let Operation::On(key, Action::DeriveCap { p1, .. }) = &call.operation {
+            let climb = store.climb((key.name, *p1));
+            self.depth = self.depth.max(climb.len());
+            let parent = climb.get(1).map(|place| place.1);
+            let children = store.tree(key.name).filter(|(_, c)| c.parent == parent);
+            self.children = self.children.max(children.count());
+        }
+    }
+}
+
+/// The counts. Calls are by number, unknown ones under 0.
+#[derive(Default)]
+pub struct Coverage {
+    pub calls: u64,
+    pub peaks: Peaks,
+    pub answers: BTreeMap<(u32, u32), u64>,
+    pub cases: BTreeMap<(u32, Condition), u64>,
+    pub pairs: BTreeMap<(u32, u32, u32), [u64; 3]>,
+    pub scenes: BTreeMap<String, u64>,
+}
+
+impl Coverage {
+    /// Counts a call, what held before it, and its answer's code.
+    pub fn note(&mut self, call: &Call, held: &[Condition], code: u32) {
+        let number = call_kind(call.operation.number()).map_or(0, |kind| kind.number);
+        self.calls += 1;
+        *self.answers.entry((number, code)).or_default() += 1;
+        for condition in held {
+            *self.cases.entry((number, *condition)).or_default() += 1;
+        }
+        for (a, b) in pairs(number) {
+            let holds = |refusal| held.iter().any(|c| c.refusal == refusal);
+            let counts = self.pairs.entry((number, a, b)).or_default();
+            match (holds(a), holds(b)) {
+                (true, true) => counts[0] += 1,
+                (true, false) => counts[1] += 1,
+                (false, true) => counts[2] += 1,
+                (false, false) => {}
+            }
+        }
+    }
+
+    /// Every reachable count with what it counts.
+    pub fn reachable_counts(&self) -> Vec<(String, u64)> {
+        let count = |scene: &str| self.scenes.get(scene).copied().unwrap_or(0);
+        let scenes = SCENES.iter().map(|scene| (scene.to_string(), count(scene)));
+        let mut counts: Vec<(String, u64)> = scenes.collect();
+        for call in 0..=CALLS.len() as u32 {
+            let done = (call > 0).then_some(0);
+            for code in done.into_iter().chain(refusals(call).iter().copied()) {
+                let count = self.answers.get(&(call, code)).copied();
+                let what = format!("{} answers {code}", name(call));
+                counts.push((what, count.unwrap_or(0)));
+            }
+            for (a, b) in pairs(call) {
+                let found = self.pairs.get(&(call, a, b)).copied().unwrap_or_default();
+                for (hold, count) in HOLDS.into_iter().zip(found) {
+                    let what = format!("{} {a} and {b}: {hold:?}", name(call));
+                    if reachable(call, (a, b), hold) {
+                        counts.push((what, count));
+                    }
+                }
+            }
+        }
+        counts
+    }
+
+    /// Counts that should be 0 and are not.
+    pub fn unexpected(&self) -> Vec<String> {
+        let mut found = Vec::new();
+        for (call, code) in self.answers.keys() {
+            let done = *code == 0 && *call > 0;
+            if !done && !refusals(*call).contains(code) {
+                found.push(format!("{} answers {code}", name(*call)));
+            }
+        }
+        for ((call, a, b), counts) in &self.pairs {
+            for (hold, count) in HOLDS.into_iter().zip(counts) {
+                if *count > 0 && !reachable(*call, (*a, *b), hold) {
+                    found.push(format!("{} {a} and {b}: {hold:?}", name(*call)));
+                }
+            }
+        }
+        found
+    }
+
+    /// The table as text.
+    pub fn table(&self) -> String {
+        let mut text = format!("{} calls, {:?}\n\n", self.calls, self.peaks);
+        for (scene, count) in &self.scenes {
+            let _ = writeln!(text, "  {scene:<40} {count:>8}");
+        }
+        for call in 0..=CALLS.len() as u32 {
+            let _ = writeln!(text, "\n{}", name(call));
+            let of_call = |key: u32| key == call;
+            for ((_, code), count) in self.answers.iter().filter(|((c, _), _)| of_call(*c)) {
+                let _ = writeln!(text, "  answer {code:>2} {count:>8}");
+            }
+            for ((_, held), count) in self.cases.iter().filter(|((c, _), _)| of_call(*c)) {
+                let _ = writeln!(text, "  holds {:>2} {:<16} {count:>8}", held.refusal, held.case);
+            }
+            for (a, b) in pairs(call) {
+                let counts = self.pairs.get(&(call, a, b)).copied().unwrap_or_default();
+                let [both, earlier, later] = counts;
+                let _ = writeln!(
+                    text,
+                    "  {a:>2} and {b:>2}: both {both:>6}, only {a:>2} {earlier:>6}, only {b:>2} {later:>6}"
+                );
+            }
+        }
+        text
+    }
+}
+
+/// All two refusals of a call's list, the earlier one first.
+fn pairs(call: u32) -> Vec<(u32, u32)> {
+    let list = refusals(call);
+    let later = |at: usize| list[at + 1..].iter().map(move |b| (list[at], *b));
+    (0..list.len()).flat_map(later).collect()
+}
+
+fn name(call: u32) -> &'static str {
+    call_kind(call).map_or("unknown", |kind| kind.name)
+}
+
+/// Checked runs of all profiles. Every call is checked by `CheckedRun`, and its answer is
+/// compared with the first condition that holds.
+pub fn checked_runs(seed: u64) -> Result<Coverage, String> {
+    let mut coverage = Coverage::default();
+    for profile in PROFILES {
+        checked_profile(profile, seed, &mut coverage)?;
+    }
+    Ok(coverage)
+}
+
+/// Checked runs of one profile: as many calls as the profile says.
+pub fn checked_profile(profile: Profile, seed: u64, coverage: &mut Coverage) -> Result<(), String> {
+    let until = coverage.calls + u64::from(profile.runs) * u64::from(profile.calls);
+    let mut seeds = Random::new(seed);
+    while coverage.calls < until {
+        let seed = seeds.bits();
+        checked_run(profile, seed, coverage)
+            .map_err(|wrong| format!("{} {seed}: {wrong}", profile.name))?;
+    }
+    Ok(())
+}
+
+/// One checked run; it ends early some calls after no process runs any more.
+fn checked_run(profile: Profile, seed: u64, coverage: &mut Coverage) -> Result<(), String> {
+    let mut generator = Generator::new(profile, seed);
+    let [supply, p1, p2] = generator.first();
+    let mut run = CheckedRun::fresh(supply, p1, p2);
+    let mut stopped = 0;
+    for _ in 0..profile.calls {
+        let call = generator.next_call(&run.store);
+        let held = holding(&run.store, &call);
+        let expected = held.first().map_or(0, |condition| condition.refusal);
+        for scene in scenes(&run, &call, expected) {
+            *coverage.scenes.entry(scene).or_default() += 1;
+        }
+        let answer = run.run(&call).map_err(|wrong| format!("{call:?}: {wrong}"))?;
+        if answer.code != expected {
+            return Err(format!("{call:?}: {} for {held:?}", answer.code));
+        }
+        coverage.note(&call, &held, answer.code);
+        if answer.code == 0 {
+            coverage.peaks.note(&run.store, &call);
+        }
+        stopped += u32::from(!run.store.objects.values().any(Object::runs));
+        if stopped > 5 {
+            break;
+        }
+    }
+    Ok(())
+}

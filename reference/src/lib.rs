@@ -1,0 +1,20 @@
+//! An independent reference of the hall store: a second reading of the scope paper ("01") over
+//! ordinary maps, to compare the verified kernel and its program with.
+//!
+//! `call` and `kernel` are the calls and the store; `script` runs 01's scripts (`hall-reference`).
+//! `ledger` and `claims` check demand 3 beside a run. `generate`, with `profiles` and `random`,
+//! makes random calls and scripts (`make-script`); `conditions`, `scenes` and `coverage` count what
+//! they meet (`coverage`). `examples` prints answered scripts as definitions (`script-table`).
+
+pub mod call;
+pub mod claims;
+pub mod conditions;
+pub mod coverage;
+pub mod examples;
+pub mod generate;
+pub mod kernel;
+pub mod ledger;
+pub mod profiles;
+pub mod random;
+pub mod scenes;
+pub mod script;

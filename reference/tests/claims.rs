@@ -1,0 +1,130 @@
+//! The checks can fail: a store or a ledger spoilt in one place is found wrong.
+
+use reference::call::Name;
+use reference::claims::{check_ledger, well_formed, CheckedRun};
+use reference::kernel::{Capability, Message, Place, Store};
+use reference::ledger::Ledger;
+use reference::script::{read_call, read_numbers};
+
+const NAME: Name = Name { volume: 2, serial: 7 };
+const MASTER: Place = (NAME, 11);
+const CHILD: Place = (NAME, 21);
+const GRANDCHILD: Place = (NAME, 31);
+
+/// A process 2/7 with a child, a grandchild and a second child, and money in its purse.
+const LINES: [&str; 9] = [
+    "1 0 1 2 128 1 8191 7 11 13",
+    "9 0 1 2 7 11 13 100",
+    "5 0 1 2 7 11 13 207 32 96 21 22",
+    "5 0 1 2 7 21 22 15 64 96 31 32",
+    "5 0 1 2 7 11 13 8191 0 128 41 42",
+    "8 0 1 2 7 21 22 30",
+    "9 0 1 2 7 41 42 20",
+    "6 0 1 2 7 41 42",
+    "13 0 1 2 7 11 13 5 1 2 3",
+];
+
+fn run() -> CheckedRun {
+    let mut run = CheckedRun::fresh(1000, 5, 9);
+    for line in LINES {
+        let numbers = read_numbers(line.as_bytes()).expect(line);
+        let answer = run.run(&read_call(&numbers).expect(line)).expect(line);
+        assert_eq!(answer.code, 0, "{line}");
+    }
+    run
+}
+
+fn capability(store: &mut Store, place: Place) -> &mut Capability {
+    store.capabilities.get_mut(&place).expect("a capability")
+}
+
+/// What is spoilt, and how.
+type Spoil = (&'static str, fn(&mut Store));
+
+/// What spoils the store for demand 3, though it may still be well formed.
+const SPOILT_CLAIMS: &[Spoil] = &[
+    ("a moneyword", |s| capability(s, CHILD).moneyword += 1),
+    ("the purse", |s| capability(s, MASTER).moneyword -= 1),
+    ("a p2", |s| capability(s, CHILD).p2 += 1),
+    ("wider rights", |s| capability(s, GRANDCHILD).rights |= 16),
+    ("an earlier start", |s| capability(s, GRANDCHILD).start = 31),
+    ("a later end", |s| capability(s, GRANDCHILD).end = 97),
+    ("a lost capability", |s| {
+        s.capabilities.remove(&GRANDCHILD);
+    }),
+    ("a capability too many", |s| {
+        let child = *capability(s, CHILD);
+        s.capabilities.insert((NAME, 99), child);
+    }),
+    ("a second master", |s| capability(s, CHILD).parent = None),
+];
+
+/// What makes the store not well formed.
+const SPOILT_STORES: &[Spoil] = &[
+    ("a second master", |s| capability(s, CHILD).parent = None),
+    ("no master", |s| capability(s, MASTER).parent = Some(31)),
+    ("an absent parent", |s| capability(s, CHILD).parent = Some(99)),
+    ("its own parent", |s| capability(s, CHILD).parent = Some(21)),
+    ("wider rights", |s| capability(s, GRANDCHILD).rights |= 16),
+    ("rights out of range", |s| capability(s, MASTER).rights = 8192),
+    ("an earlier start", |s| capability(s, GRANDCHILD).start = 31),
+    ("a later end", |s| capability(s, GRANDCHILD).end = 97),
+    ("a crossed window", |s| capability(s, GRANDCHILD).start = 97),
+    ("a master's window", |s| capability(s, MASTER).end = 127),
+    ("a lockword", |s| {
+        s.objects.get_mut(&NAME).unwrap().lockword[0] = 1 << 31;
+    }),
+    ("a data object's cash", |s| {
+        s.objects.get_mut(&NAME).unwrap().process = false;
+    }),
+    ("a long message", |s| {
+        s.objects.get_mut(&NAME).unwrap().messages[0].bytes = vec![0; 17];
+    }),
+    ("a full box", |s| {
+        let messages = &mut s.objects.get_mut(&NAME).unwrap().messages;
+        messages.extend(vec![Message::default(); 4]);
+    }),
+    ("the money total", |s| s.house = u32::MAX),
+    ("an object without capabilities", |s| {
+        s.capabilities.retain(|place, _| place.0 != NAME);
+    }),
+];
+
+#[test]
+fn spoilt_stores_are_found() {
+    let CheckedRun { store, ledger } = run();
+    for (what, spoil) in SPOILT_CLAIMS {
+        let mut spoilt = store.clone();
+        spoil(&mut spoilt);
+        assert!(check_ledger(&spoilt, &ledger).is_err(), "{what}");
+    }
+    for (what, spoil) in SPOILT_STORES {
+        let mut spoilt = store.clone();
+        spoil(&mut spoilt);
+        assert!(well_formed(&spoilt).is_err(), "{what}");
+    }
+}
+
+/// A ledger that was not fed one of the calls which it takes note of does not match.
+#[test]
+fn missed_calls_are_found() {
+    let store = run().store;
+    let noted = &LINES[..LINES.len() - 1];
+    for (missed, what) in noted.iter().enumerate() {
+        let mut ledger = Ledger::fresh(5, 9);
+        for (at, line) in LINES.iter().enumerate() {
+            let numbers = read_numbers(line.as_bytes()).expect(line);
+            ledger.feed(&read_call(&numbers).expect(line), at != missed);
+        }
+        assert!(check_ledger(&store, &ledger).is_err(), "{what}");
+    }
+}
+
+/// The balances of all lines at once are those taken line by line.
+#[test]
+fn balances_agree() {
+    let ledger = run().ledger;
+    let each: Vec<i128> = (0..ledger.lines.len()).map(|at| ledger.balance(at)).collect();
+    assert_eq!(ledger.balances(), each);
+    assert_eq!(each, [0, 90, 70, 100, 120]);
+}
