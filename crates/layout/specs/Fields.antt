@@ -4,8 +4,7 @@ use mathlib.Core.Path.{_≡_}
 use mathlib.Core.Logic.{_≢_}
 use mathlib.Core.List.{List}
 use lib.Bits.{bitAnd}
-use Rattle.rules.specs.Slots.{sumOver}
-use Rattle.rules.specs.Store.{blocks, moneyIn}
+use Rattle.rules.specs.Store.{moneyIn}
 use Rattle.layout.specs.Rows.{volumeOf, flagOf, suspendedOf, waitingOf, terminatedOf, countOf, lengthOf}
 use Rattle.layout.specs.Rows.{masterOf, serialOf, sizeOf, ownerOf, parentOf, rightsOf}
 use Rattle.layout.specs.Rows.{lock1Of, p1Of, startOf, endOf}
@@ -49,10 +48,6 @@ abbrev pub PasswordsUnique : List ℕ → List ℕ → Type 0
 PasswordsUnique l w = (i j : ℕ) → ownerOf l i ≢ 0 → ownerOf l j ≢ 0
     → ownerOf l i ≡ ownerOf l j → p1Of w i ≡ p1Of w j → i ≡ j
 
--- the blocks that the sizes of living objects need are 512 at the most
-abbrev pub RoomFits : List ℕ → List ℕ → List ℕ → Type 0
-RoomFits b l w = sumOver 64 (λ o. blocks (view b l w .object o .size)) ≤ 512
-
 abbrev pub TotalFits : List ℕ → List ℕ → List ℕ → Type 0
 TotalFits b l w = moneyIn (view b l w) ≤ 4294967295
 
@@ -61,5 +56,4 @@ pub record Fields (b l w : List ℕ) : Type 0 where
   pub names : NamesUnique b l
   pub caps : CapsFit l w
   pub passwords : PasswordsUnique l w
-  pub room : RoomFits b l w
   pub total : TotalFits b l w

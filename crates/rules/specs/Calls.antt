@@ -7,7 +7,7 @@ use lib.Dec.{leb, ltb, eqb}
 use lib.ListN.{length, take, drop}
 use lib.Bits.{bitXor}
 use Rattle.rules.specs.Slots.{at, some, any}
-use Rattle.rules.specs.Store.{Name, Window, Lockword, Message, Object, Cap, State, path, descends, objectNamed}
+use Rattle.rules.specs.Store.{Window, Message, Object, Cap, State, path, descends, objectNamed}
 use Rattle.rules.specs.Store.{blocks, objectsLive, capsLive, freeBlocks, sumsIn}
 use Rattle.rules.specs.Rights.{Op, makeObj, read, write, capInfo, deriveCap, deleteCap, renameObj, withdraw}
 use Rattle.rules.specs.Rights.{deposit, suspend, resume, applyLock, send, receive, wait, revive, unknown, both}

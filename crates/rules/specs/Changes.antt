@@ -2,8 +2,7 @@
 -- or capability, and the end of some.
 use Prim.Native.Nat.{ℕ, _+_, _-_}
 use mathlib.Core.Bool.{Bool, true, false}
-use mathlib.Core.List.{List, []}
-use lib.Dec.{eqb}
+use mathlib.Core.List.{[]}
 use lib.ListN.{replicate}
 use Rattle.rules.specs.Slots.{at}
 use Rattle.rules.specs.Store.{Marks, Object, Cap, State, noLockword, noObject, noCap, descends}

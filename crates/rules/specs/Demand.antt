@@ -7,7 +7,7 @@ use mathlib.Core.List.{List, [], _∷_, _++_}
 use lib.Bits.{bitAnd}
 use Rattle.rules.specs.Store.{Password, State, capLives, masterOf, fresh}
 use Rattle.rules.specs.Valid.{LiesIn}
-use Rattle.rules.specs.Rights.{Op, makeObj, deriveCap, deleteCap, renameObj, op}
+use Rattle.rules.specs.Rights.{makeObj, deriveCap, deleteCap, renameObj, op}
 use Rattle.rules.specs.Call.{Call, Choice}
 use Rattle.rules.specs.Password.{presented}
 use Rattle.rules.specs.Refusals.{caller}

@@ -2,7 +2,6 @@
 use Prim.Native.Nat.{ℕ}
 use mathlib.Core.List.{List, [], _∷_, _++_}
 use lib.ListN.{length}
-use Rattle.rules.specs.Slots.{find}
 use Rattle.rules.specs.Store.{Name, State, objectNamed, fresh}
 use Rattle.rules.specs.Rights.{op}
 use Rattle.rules.specs.Call.{Outcome}

@@ -1,6 +1,6 @@
 -- 01, "The ledger of a run": fed each call's number, caller and arguments and whether it was done, nothing of the store.
 use Prim.Native.Nat.{ℕ, suc, _+_, _-_}
-use mathlib.Core.Bool.{Bool, true, false, not, _&&_, _||_}
+use mathlib.Core.Bool.{Bool, true, false, not, _&&_}
 use lib.Dec.{eqb}
 use lib.Bits.{bitXor}
 use Rattle.rules.specs.Slots.{at, find, sumOver, mem, climb}

@@ -1,6 +1,6 @@
 -- 01, "Presenting a password".
 use Prim.Native.Nat.{ℕ}
-use mathlib.Core.Bool.{Bool, true, false, _&&_}
+use mathlib.Core.Bool.{true, false, _&&_}
 use lib.Dec.{leb}
 use lib.Bits.{bitXor}
 use Rattle.rules.specs.Slots.{find}

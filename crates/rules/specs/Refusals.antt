@@ -5,8 +5,7 @@ use mathlib.Core.Bool.{Bool, true, false, not, _&&_, _||_}
 use mathlib.Core.List.{List, [], _∷_}
 use lib.Dec.{leb, ltb, eqb}
 use lib.ListN.{length}
-use Rattle.rules.specs.Slots.{at}
-use Rattle.rules.specs.Store.{Name, Window, Marks, State, objectNamed}
+use Rattle.rules.specs.Store.{Name, Window, State, objectNamed}
 use Rattle.rules.specs.Rights.{Op, makeObj, read, write, capInfo, deriveCap, deleteCap, renameObj, withdraw}
 use Rattle.rules.specs.Rights.{deposit, suspend, resume, applyLock, send, receive, wait, revive, unknown, op}
 use Rattle.rules.specs.Rights.{feeOf, asked, presents, has}

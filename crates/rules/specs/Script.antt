@@ -1,6 +1,6 @@
 -- 01, "A script and its output", in numbers: a line as a call, the numbers that an answer writes, and a run to the `T`
 -- line. How the numbers stand in bytes is the script program's own.
-use Prim.Native.Nat.{ℕ, _+_, _-_}
+use Prim.Native.Nat.{ℕ}
 use mathlib.Core.Bool.{Bool, true, false, not, _&&_}
 use mathlib.Core.List.{List, [], _∷_, _++_}
 use lib.Dec.{eqb, leb, ltb}
@@ -16,10 +16,9 @@ use Rattle.rules.specs.Changes as Changes
 use Rattle.rules.specs.Calls as Calls
 use Rattle.rules.specs.Rule as Rule
 use Rattle.rules.specs.Slots.{find, any}
-use Rattle.rules.specs.Store.{Name, Password, State, capLives, allCash, allMasters, allBoxes, fresh}
+use Rattle.rules.specs.Store.{Password, State, capLives, allCash, allMasters, allBoxes, fresh}
 use Rattle.rules.specs.Rights.{Op, makeObj, read, write, capInfo, deriveCap, deleteCap, renameObj, withdraw}
 use Rattle.rules.specs.Rights.{deposit, suspend, resume, applyLock, send, receive, wait, revive, unknown, op}
-use Rattle.rules.specs.Rights.{presents}
 use Rattle.rules.specs.Call.{Call, Capability, Answer, Outcome, Choice, code}
 use Rattle.rules.specs.Rule.{rule}
 

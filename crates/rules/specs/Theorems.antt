@@ -1,8 +1,7 @@
 -- What is proved about the rules besides demand 3, each statement by itself; proofs/Theorems.antt has the proofs.
 use Prim.Native.Nat.{ℕ, _<_}
 use mathlib.Core.Path.{_≡_}
-use mathlib.Core.Logic.{_≢_}
-use mathlib.Core.Bool.{Bool, true, false}
+use mathlib.Core.Bool.{true, false}
 use mathlib.Core.List.{List, [], _∷_, map}
 use Rattle.rules.specs.Store.{Password, State, moneyIn, fresh}
 use Rattle.rules.specs.Valid.{Valid}

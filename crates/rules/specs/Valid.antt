@@ -1,15 +1,15 @@
 -- 01, "A store is well formed when", in meaning: its ranges, unique names and p1, one tree with one master for each
 -- object, children in their parents, lockwords, the money total. Chains, links and lengths are the slices' own.
 -- Each part speaks of the parts of a state that it depends on, so a call that leaves those alone keeps it as it stands.
-use Prim.Native.Nat.{ℕ, _+_, _≤_, _<_}
+use Prim.Native.Nat.{ℕ, _≤_, _<_}
 use mathlib.Core.Path.{_≡_}
 use mathlib.Core.Logic.{_≢_}
-use mathlib.Core.Bool.{Bool, true, false}
+use mathlib.Core.Bool.{true, false}
 use mathlib.Core.List.{List, [], _∷_}
 use lib.ListN.{length}
 use lib.Bits.{bitAnd}
 use Rattle.rules.specs.Slots.{sumOver}
-use Rattle.rules.specs.Store.{Name, Password, Window, Lockword, Message, Object, Cap, State, noObject, noCap}
+use Rattle.rules.specs.Store.{Window, Lockword, Message, Object, Cap, State, noObject, noCap}
 use Rattle.rules.specs.Store.{noLockword, noMarks, blocks, moneyIn}
 
 -- ---- objects: volumes are 0 to 3, serials 0 to 65,535, at most 64 objects live, sizes are 0 to 8,192

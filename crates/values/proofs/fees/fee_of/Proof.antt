@@ -1,6 +1,6 @@
 -- `fee_of` gives the rules' fee: the table is the rules' list.
 use borrow.Author.Needs.{needs}
-use mathlib.Core.Path.{refl, sym, ap, _∙_}
+use mathlib.Core.Path.{sym, ap}
 use native.Mathlib.Omega.{arith}
 use Rattle.rules.specs.Rights.{fees, feeOf}
 use Rattle.values.proofs.ByNumber.{fee-at, fee-past}

@@ -1,7 +1,7 @@
 -- `moved` moves each end.
 use Prim.Native.Nat.{ℕ}
 use borrow.Author.Needs.{needs}
-use mathlib.Core.Path.{_≡_, ap₂}
+use mathlib.Core.Path.{ap₂}
 use Rattle.rules.specs.Store.{Window}
 use Rattle.rules.specs.Calls.{moved}
 use Rattle.values.proofs.window.Window.moved.Statement.{statement}
