@@ -1,2 +1,39 @@
--- Theorems about the rules.
+-- Theorems about the rules, each file after those that it cites.
 pub mod Examples
+-- the ground
+pub mod Tests
+pub mod Bitwise
+pub mod Slots
+pub mod Climbs
+pub mod Forest
+-- the parts of a store, the ledger's lines, and the invariant that ties them
+pub mod Sound
+pub mod Masters
+pub mod Lines
+pub mod Link
+-- the three generic edits
+pub mod Ending
+pub mod Adding
+pub mod Placing
+-- what is known where a call is done
+pub mod Presenting
+pub mod Ready
+pub mod Outcomes
+-- the calls
+pub mod Keeping
+pub mod Purse
+pub mod Locking
+pub mod Deriving
+pub mod Making
+pub mod Deleting
+pub mod Renaming
+pub mod Answers
+pub mod Done
+pub mod Steps
+-- lists of calls
+pub mod Fresh
+pub mod Claims
+pub mod Ended
+pub mod Choices
+pub mod Runs
+pub mod Theorems

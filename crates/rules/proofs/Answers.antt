@@ -1,0 +1,127 @@
+-- What a call answers: 0 where it is done, a refusal's number with nothing else, and never by what is taken.
+use Prim.Native.Nat.{ℕ}
+use mathlib.Core.Path.{_≡_, refl, sym, ap, _∙_}
+use mathlib.Core.Logic.{_≢_}
+use mathlib.Core.Bool.{true, false, true≢false}
+use mathlib.Core.List.{List, [], _∷_}
+use native.Mathlib.Omega.{arith}
+use lib.Dec.{eqb}
+use borrow.Author.Tests.{eq-eqb, ne-eqb}
+use Rattle.rules.specs.Store.{Message, State}
+use Rattle.rules.specs.Rights.{Op, makeObj, read, write, capInfo, deriveCap, deleteCap, renameObj, withdraw}
+use Rattle.rules.specs.Rights.{deposit, suspend, resume, applyLock, send, receive, wait, revive, unknown, op}
+use Rattle.rules.specs.Call.{Call, Answer, Outcome, Choice, code, done, handsBack, handsOver, tells}
+use Rattle.rules.specs.Refusals.{caller, early}
+use Rattle.rules.specs.Changes.{setTerminated}
+use Rattle.rules.specs.Calls.{makeObjDoes, readDoes, writeDoes, capInfoDoes, deriveCapDoes, renameObjDoes}
+use Rattle.rules.specs.Calls.{withdrawDoes, depositDoes, suspendDoes, resumeDoes, applyLockDoes, sendDoes}
+use Rattle.rules.specs.Calls.{receiveDoes, waitDoes, reviveDoes, does}
+use Rattle.rules.specs.Rule.{stopped, paid, late, rule, isDone}
+use Rattle.rules.specs.Theorems.{Refused}
+use Rattle.rules.proofs.Tests.{by-eq, pick-yes, pick-not}
+use Rattle.rules.proofs.Ready.{early-low, late-high, slotOf}
+use Rattle.rules.proofs.Outcomes.{done-out, rule-early, rule-late, rule-done, rule-by}
+use Rattle.rules.proofs.Deleting.{delete-by}
+
+-- ---- the answer of a done call
+
+module _ (s : State) (c : Call) (me k : ℕ) where
+  -- it is 0
+  does-done : (h : Choice) (o : Op) → does s c me k h o .answer .code ≡ 0
+  unfolding does makeObjDoes readDoes writeDoes capInfoDoes deriveCapDoes renameObjDoes withdrawDoes depositDoes
+      suspendDoes resumeDoes applyLockDoes sendDoes receiveDoes waitDoes reviveDoes done code handsBack handsOver tells
+  does-done h makeObj = refl
+  does-done h read = refl
+  does-done h write = refl
+  does-done h capInfo = refl
+  does-done h deriveCap = refl
+  does-done h deleteCap = delete-by s c me k (λ r. r .answer .code ≡ 0) (λ z. refl) (λ n. refl)
+  does-done h renameObj = refl
+  does-done h withdraw = refl
+  does-done h deposit = refl
+  does-done h suspend = refl
+  does-done h resume = refl
+  does-done h applyLock = refl
+  does-done h send = refl
+  does-done h receive = received-done (s .box me)
+    where
+      received-done : (l : List Message) → receiveDoes s c me k l .answer .code ≡ 0
+      received-done [] = refl
+      received-done (m ∷ l) = refl
+  does-done h wait = refl
+  does-done h revive = refl
+  does-done h unknown = refl
+
+  -- and does not depend on what is taken
+  does-fixed : (h g : Choice) (o : Op) → does s c me k h o .answer ≡ does s c me k g o .answer
+  unfolding does makeObjDoes deriveCapDoes renameObjDoes handsBack
+  does-fixed h g makeObj = refl
+  does-fixed h g read = refl
+  does-fixed h g write = refl
+  does-fixed h g capInfo = refl
+  does-fixed h g deriveCap = refl
+  does-fixed h g deleteCap = refl
+  does-fixed h g renameObj = refl
+  does-fixed h g withdraw = refl
+  does-fixed h g deposit = refl
+  does-fixed h g suspend = refl
+  does-fixed h g resume = refl
+  does-fixed h g applyLock = refl
+  does-fixed h g send = refl
+  does-fixed h g receive = refl
+  does-fixed h g wait = refl
+  does-fixed h g revive = refl
+  does-fixed h g unknown = refl
+
+-- ---- the answer of an outcome
+
+pub refused-not : (n : ℕ) (r : State) → n ≢ 0 → isDone (record { answer = code n; after = r }) ≡ false
+unfolding isDone code
+refused-not n r d = ne-eqb n 0 d
+
+pub is-done : (s : State) (c : Call) (h : Choice) → isDone (done-out s c h) ≡ true
+unfolding isDone
+is-done s c h = eq-eqb _ _ (does-done (paid s c) c (caller s c) (slotOf s c) h (op (c .number)))
+
+-- where a call is done it meets no refusal
+pub done-by : (s : State) (c : Call) (h : Choice) (P : Outcome → Type 0)
+    → (early s c ≡ 0 → late (paid s c) c (slotOf s c) ≡ 0 → P (done-out s c h)) → isDone (rule s c h) ≡ true
+    → P (rule s c h)
+done-by s c h P f = rule-by s c h (λ r. isDone r ≡ true → P r)
+    (λ n q. absurd (true≢false (sym q ∙ refused-not (early s c) (stopped s c (early s c)) n)))
+    (λ e n q. absurd (true≢false (sym q ∙ refused-not (late (paid s c) c (slotOf s c)) (paid s c) n)))
+    (λ a b q. f a b)
+
+-- ---- the rule
+
+pub refused-rule : (s : State) (c : Call) (h : Choice) → isDone (rule s c h) ≡ false → Refused s c (rule s c h)
+unfolding code stopped
+refused-rule s c h = rule-by s c h (λ r. isDone r ≡ false → Refused s c r)
+    (λ n q.
+    let m : ℕ = early s c in
+    let x : State = setTerminated s (caller s c) true in
+    record {
+      others = refl;
+      nothing = λ b. pick-not (eqb m 4) x s (ne-eqb m 4 (λ e. omega arith));
+      marks = λ e. pick-yes (eqb m 4) x s (eq-eqb m 4 e);
+      fee = λ b. absurd (omega (arith, early-low s c n));
+    })
+    (λ e n q. record {
+      others = refl;
+      nothing = λ b. absurd (omega (arith, late-high (paid s c) c (slotOf s c) n));
+      marks = λ b. absurd (omega (arith, late-high (paid s c) c (slotOf s c) n));
+      fee = λ b. refl;
+    })
+    (λ e f q. absurd (true≢false (sym (is-done s c h) ∙ q)))
+
+pub answer-same : (s : State) (c : Call) (h g : Choice) → rule s c h .answer ≡ rule s c g .answer
+answer-same s c h g =
+    let answer : Outcome → Answer = λ r. r .answer in
+    by-eq (early s c) 0
+    (λ e. by-eq (late (paid s c) c (slotOf s c)) 0
+    (λ f.
+    ap answer (rule-done s c h e f)
+    ∙ does-fixed (paid s c) c (caller s c) (slotOf s c) h g (op (c .number))
+    ∙ sym (ap answer (rule-done s c g e f)))
+    (λ n. ap answer (rule-late s c h e n) ∙ sym (ap answer (rule-late s c g e n))))
+    (λ n. ap answer (rule-early s c h n) ∙ sym (ap answer (rule-early s c g n)))

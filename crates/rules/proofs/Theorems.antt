@@ -1,0 +1,54 @@
+-- The theorems about the rules: what specs/Theorems.antt states, and demand 3.
+use mathlib.Core.Path.{subst}
+use mathlib.Core.List.{_∷_}
+use Rattle.rules.specs.Demand.{Now, start, run, Legal, Demand3}
+use Rattle.rules.specs.Theorems.{FreshValid, ValidKept, MoneyKept, RefusedLeaves, AnswerFixed, ChoiceExists}
+use Rattle.rules.specs.Theorems.{RunExists}
+use Rattle.rules.proofs.Answers.{refused-rule, answer-same}
+use Rattle.rules.proofs.Steps.{keep-step}
+use Rattle.rules.proofs.Fresh.{valid-fresh}
+use Rattle.rules.proofs.Claims.{claims}
+use Rattle.rules.proofs.Choices.{choose}
+use Rattle.rules.proofs.Runs.{valid-step, good-start, good-run, legal-front, ended-next, run-of}
+
+pub fresh-valid : FreshValid
+unfolding FreshValid
+fresh-valid = valid-fresh
+
+pub valid-kept : ValidKept
+unfolding ValidKept
+valid-kept = valid-step
+
+pub money-kept : MoneyKept
+unfolding MoneyKept
+money-kept s c h v A = keep-step s (v .formed) c h A .total
+
+pub refused-leaves : RefusedLeaves
+unfolding RefusedLeaves
+refused-leaves = refused-rule
+
+pub answer-fixed : AnswerFixed
+unfolding AnswerFixed
+answer-fixed = answer-same
+
+pub choice-exists : ChoiceExists
+unfolding ChoiceExists
+choice-exists s c h v = choose s c h (v .formed)
+
+pub run-exists : RunExists
+unfolding RunExists start
+run-exists supply p W calls = run-of (start supply p) calls (valid-fresh supply p W)
+
+-- the claims follow from the invariant at the end of the list, what a done delete ended from the invariant before it
+pub demand-3 : Demand3
+unfolding Demand3
+demand-3 supply p W l legal =
+    let n : Now = start supply p in
+    let g = good-start supply p W in
+    let r = good-run n l g legal in
+    record {
+      claims = claims (run n l .store) (run n l .ledger) (r .valid .formed) (r .link);
+      deletes = λ before after x e d f.
+          let front = legal-front n before (x ∷ after) (subst (Legal n) e legal) in
+          ended-next (run n before) x (good-run n before g front) d f;
+    }
