@@ -14,17 +14,17 @@ READ = 1
 abbrev pub WRITE : ℕ
 WRITE = 2
 
-abbrev pub CAP-INFO : ℕ
-CAP-INFO = 4
+abbrev pub «CAP_INFO» : ℕ
+«CAP_INFO» = 4
 
-abbrev pub DERIVE-CAP : ℕ
-DERIVE-CAP = 8
+abbrev pub «DERIVE_CAP» : ℕ
+«DERIVE_CAP» = 8
 
-abbrev pub DELETE-CAP : ℕ
-DELETE-CAP = 16
+abbrev pub «DELETE_CAP» : ℕ
+«DELETE_CAP» = 16
 
-abbrev pub RENAME-OBJ : ℕ
-RENAME-OBJ = 32
+abbrev pub «RENAME_OBJ» : ℕ
+«RENAME_OBJ» = 32
 
 abbrev pub WITHDRAW : ℕ
 WITHDRAW = 64
@@ -38,8 +38,8 @@ SUSPEND = 256
 abbrev pub RESUME : ℕ
 RESUME = 512
 
-abbrev pub APPLY-LOCK : ℕ
-APPLY-LOCK = 1024
+abbrev pub «APPLY_LOCK» : ℕ
+«APPLY_LOCK» = 1024
 
 abbrev pub SEND : ℕ
 SEND = 2048
@@ -86,15 +86,15 @@ unfoldable pub asked : Op → ℕ
 asked makeObj = 0
 asked read = READ
 asked write = WRITE
-asked capInfo = CAP-INFO
-asked deriveCap = DERIVE-CAP
-asked deleteCap = DELETE-CAP
-asked renameObj = RENAME-OBJ
+asked capInfo = «CAP_INFO»
+asked deriveCap = «DERIVE_CAP»
+asked deleteCap = «DELETE_CAP»
+asked renameObj = «RENAME_OBJ»
 asked withdraw = WITHDRAW
 asked deposit = DEPOSIT
 asked suspend = SUSPEND
 asked resume = RESUME
-asked applyLock = APPLY-LOCK
+asked applyLock = «APPLY_LOCK»
 asked send = SEND
 asked receive = 0
 asked wait = 0
