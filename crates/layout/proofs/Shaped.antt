@@ -127,11 +127,14 @@ module _ (l : List ℕ) (c : Caps l) where
       go (yes z) = absurd (omega (arith, n, ap (λ x. count k x) (c .trees o low high .dead z)))
       go (no alive) = in-tree l o low high (c .tree o) (c .trees o low high) alive k n
 
+  -- a record that is not in the free chain is one
+  pub cap-held : (k : ℕ) → 1 ≤ k → k ≤ 512 → times k (c .free) ≡ 0 → (o : ℕ) × CapShaped l o k
+  cap-held k low high z =
+      let t = sum-some 64 (λ o. count k (c .tree o)) (omega (arith, c .once k low high)) in
+      (t .0, of-tree k (t .0) (t .1) (t .2) (t .3))
+
   cap-of : (k : ℕ) → ownerOf l k ≢ 0 → CapShaped l (ownerOf l k) k
-  cap-of k alive =
-      let t = sum-some 64 (λ o. count k (c .tree o)) (omega (arith, c .once k low high, not-free)) in
-      let w = of-tree k (t .0) (t .1) (t .2) (t .3) in
-      rw (w .owner-is) w
+  cap-of k alive = let t = cap-held k low high not-free in rw (t .1 .owner-is) (t .1)
     where
       low : 1 ≤ k
       low = field-low 512 Layout.OWNER l k alive

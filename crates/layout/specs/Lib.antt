@@ -5,3 +5,4 @@ pub mod View
 pub mod Shape
 pub mod WellFormed
 pub mod Fields
+pub mod Decides

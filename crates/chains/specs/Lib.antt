@@ -1,0 +1,3 @@
+-- What the checks of chains promise.
+pub mod Marking
+pub mod Parts

@@ -1,0 +1,8 @@
+-- Laws that the proofs of this crate's functions share.
+pub mod Deciding
+pub mod Cells
+pub mod Counting
+pub mod Unique
+pub mod Adding
+pub mod Living
+pub mod Entering

@@ -1,0 +1,20 @@
+-- `bucket_of` is `bucket`, and is in the table.
+use native.Mathlib.Omega.{arith}
+use mathlib.Core.Path.{refl}
+use Rattle.fields.specs.Distinct.{bucket}
+use borrow.Author.Needs.{needs}
+use Rattle.fields.proofs.passwords.bucket_of.Statement.{statement}
+use Rattle.fields.proofs.passwords.bucket_of.Tie as tie
+
+mul-result : tie.Need-mul-result
+mul-result c = search needs
+
+add-result : tie.Need-add-result
+add-result c = search needs
+
+returns : tie.Need-returns
+unfolding bucket
+returns c = (refl, omega arith)
+
+pub bucket-of-spec : {M : Type 1} → statement M
+bucket-of-spec = tie.close (tie.spec mul-result add-result returns)

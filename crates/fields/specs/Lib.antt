@@ -1,0 +1,4 @@
+-- What the check of the fields says of its answers.
+pub mod Parts
+pub mod Distinct
+pub mod Amount

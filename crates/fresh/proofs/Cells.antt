@@ -1,0 +1,105 @@
+-- What a field holds after stores to the slice: a store outside its row, a store to one of its slots, zeros everywhere.
+-- The side conditions compute at the numbers of a layout, so that `simp` reads through any row of stores.
+use Prim.Native.Nat.{ℕ, zero, suc, _+_, _-_, _≤_, _<_}
+use mathlib.Core.Path.{_≡_, refl, sym, _∙_, fun-ext}
+use mathlib.Core.Logic.{_≢_}
+use mathlib.Core.Bool.{Bool, true, false, _&&_, _||_, false≢true}
+use mathlib.Core.List.{List}
+use native.Mathlib.Omega.{arith}
+use lib.Dec.{eqb, leb, ltb}
+use borrow.Author.Tests.{eqb-false, leb-true, ltb-true, le-leb}
+use lib.ListN.{length, getD, set, length-replicate}
+use lib.Seq.{getD-set-same, getD-set-other}
+use Rattle.rules.specs.Slots.{at}
+use Rattle.layout.specs.Rows.{field}
+use Rattle.fresh.specs.Stores.{zeros}
+use Rattle.fresh.proofs.Slots.{is-at}
+
+and-left : (a b : Bool) → (a && b) ≡ true → a ≡ true
+and-left true b h = refl
+and-left false b h = h
+
+and-right : (a b : Bool) → (a && b) ≡ true → b ≡ true
+and-right true b h = h
+and-right false b h = absurd (false≢true h)
+
+or-cases : {A : Type 0} (a b : Bool) → (a || b) ≡ true → (a ≡ true → A) → (b ≡ true → A) → A
+or-cases true b h f g = f refl
+or-cases false b h f g = g h
+
+-- ---- one slot
+
+pub at-slot : (n off : ℕ) (l : List ℕ) (i : ℕ) → 1 ≤ i → i ≤ n → field n off l i ≡ getD l (off + i) 0
+unfolding field
+at-slot n off l i a b = rw (le-leb 1 i a, le-leb i n b, field)
+
+-- fields agree where their cells do
+pub field-agree : (n off : ℕ) (l m : List ℕ) (j : ℕ)
+    → (1 ≤ j → j ≤ n → getD l (off + j) 0 ≡ getD m (off + j) 0)
+    → field n off l j ≡ field n off m j
+unfolding field
+field-agree n off l m j same = go (leb 1 j && leb j n) refl
+  where
+    go : (u : Bool) → (leb 1 j && leb j n) ≡ u → field n off l j ≡ field n off m j
+    go true e =
+        let low : 1 ≤ j = leb-true 1 j (and-left (leb 1 j) (leb j n) e) in
+        let high : j ≤ n = leb-true j n (and-right (leb 1 j) (leb j n) e) in
+        at-slot n off l j low high ∙ same low high ∙ sym (at-slot n off m j low high)
+    go false e = rw (e, field)
+
+-- ---- a store
+
+-- the cells from c to d are none of the row of n slots at off
+abbrev pub apart : ℕ → ℕ → ℕ → ℕ → Bool
+apart n off c d = leb d off || ltb (off + n) c
+
+pub apart-cells : (n off c d j k : ℕ) → apart n off c d ≡ true → 1 ≤ j → j ≤ n → c ≤ k → k ≤ d → off + j ≢ k
+apart-cells n off c d j k a low high lowk highk e =
+    or-cases (leb d off) (ltb (off + n) c) a
+    (λ t. omega (arith, leb-true d off t))
+    (λ t. omega (arith, ltb-true (off + n) c t))
+
+pub set-apart : (n off : ℕ) (l : List ℕ) (c v : ℕ) → apart n off c c ≡ true → field n off (set l c v) ≡ field n off l
+set-apart n off l c v a = fun-ext (λ j. field-agree n off (set l c v) l j
+    (λ low high. getD-set-other l c (off + j) v 0 (apart-cells n off c c j c a low high (omega arith) (omega arith))))
+
+-- one cell
+pub set-here : (l : List ℕ) (c v : ℕ) → ltb c (length l) ≡ true → getD (set l c v) c 0 ≡ v
+set-here l c v h = getD-set-same l c v 0 (ltb-true c (length l) h)
+
+pub set-else : (l : List ℕ) (c k v : ℕ) → eqb k c ≡ false → getD (set l c v) k 0 ≡ getD l k 0
+set-else l c k v h = getD-set-other l c k v 0 (eqb-false k c h)
+
+-- the cell c is one of the row's
+pub set-slot : (n off : ℕ) (l : List ℕ) (c v : ℕ)
+    → (ltb off c && leb c (off + n)) ≡ true → ltb c (length l) ≡ true
+    → field n off (set l c v) ≡ at (field n off l) (c - off) v
+set-slot n off l c v in-row in-list =
+    let low : off < c = ltb-true off c (and-left (ltb off c) (leb c (off + n)) in-row) in
+    let high : c ≤ off + n = leb-true c (off + n) (and-right (ltb off c) (leb c (off + n)) in-row) in
+    let e : off + (c - off) ≡ c = omega arith in
+    is-at (field n off (set l c v)) (field n off l) (c - off) v
+    (at-slot n off (set l c v) (c - off) (omega arith) (omega arith)
+    ∙ rw e (set-here l c v in-list))
+    (λ j ne. field-agree n off (set l c v) l j
+    (λ a b. getD-set-other l c (off + j) v 0 (λ q. ne (omega arith))))
+
+-- ---- zeros
+
+pub length-zeros : (m : ℕ) → length (zeros m) ≡ m
+unfolding zeros
+length-zeros m = length-replicate m 0
+
+pub zero-cell : (m i : ℕ) → getD (zeros m) i 0 ≡ 0
+unfolding zeros
+zero-cell zero i = refl
+zero-cell (suc m) zero = refl
+zero-cell (suc m) (suc i) = zero-cell m i
+
+pub zero-row : (n off m : ℕ) → field n off (zeros m) ≡ (λ j. 0)
+unfolding field
+zero-row n off m = fun-ext (λ j. go j (leb 1 j && leb j n) refl)
+  where
+    go : (j : ℕ) (u : Bool) → (leb 1 j && leb j n) ≡ u → field n off (zeros m) j ≡ 0
+    go j true e = rw (e, field) (zero-cell m (off + j))
+    go j false e = rw (e, field)

@@ -1,0 +1,4 @@
+-- The fresh store: what stands in each of its three slices.
+pub mod Stores
+pub mod Slices
+pub mod Fresh

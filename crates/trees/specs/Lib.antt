@@ -1,0 +1,2 @@
+-- What the check of the capability trees promises.
+pub mod Parts
