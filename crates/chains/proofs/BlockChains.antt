@@ -15,7 +15,7 @@ use Rattle.layout.specs.Decides.{Decides}
 use Rattle.chains.specs.Marking.{Marks, Part, Marking}
 use Rattle.chains.specs.Parts.{chainWith, Any, Long, blocksOf, blocksOfAll}
 use Rattle.chains.proofs.Marking.{marking-nothing, marking-as}
-use Rattle.chains.proofs.Decides.{decides-as}
+use Rattle.layout.proofs.Deciding.{as-well}
 use Rattle.chains.proofs.Covers.{Inside, chain-inside, each-inside, Covers}
 
 module _ (l : List ℕ) (o : ℕ) (low : 1 ≤ o) (high : o ≤ 64) {s : List ℕ} where
@@ -67,6 +67,6 @@ freeBlocks l = chainWith 512 (nextBlockOf l) Any (getD l Layout.«FREE_BLOCKS» 
 
 pub blocks-decided : (l : List ℕ) {r : Bool} → Decides (Covers 512 (blocksOfAll l 64) (freeBlocks l)) r
     → Decides (Blocks l) r
-blocks-decided l = decides-as
+blocks-decided l d = as-well d
     (λ x. record { chain = x .0; free = x .1; chains = x .2; free-chain = x .3 .0; once = x .4 })
     (λ b. (b .chain, b .free, b .chains, (b .free-chain, tt), b .once))

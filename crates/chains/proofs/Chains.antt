@@ -11,7 +11,7 @@ use Rattle.rules.specs.Slots.{at, sumOver}
 use Rattle.layout.specs.Shape.{Chain, times}
 use Rattle.layout.specs.Rows.{field}
 use Rattle.layout.proofs.Field.{field-in}
-use Rattle.layout.proofs.Counts.{at-same, at-other, sum-same}
+use Rattle.rules.proofs.Slots.{at-here, at-else, sum-same}
 use Rattle.layout.specs.Decides.{Decides}
 use Rattle.chains.specs.Marking.{AtSlots, Marks, Blank, FreeMarked, Part, Marking}
 use Rattle.chains.specs.Parts.{chainWith, Any, Long, JustFree, each}
@@ -101,21 +101,21 @@ module _ {X : Type 0} (Fits : ℕ → X → Type 0) (holds : X → ℕ → ℕ) 
       fits x T here rest o a b = go (ℕ-discrete o (suc n))
         where
           go : Dec (o ≡ suc n) → Fits o (at T (suc n) x o)
-          go (yes e) = rw (e, at-same T (suc n) x) here
-          go (no ne) = rw (at-other T (suc n) x o ne) (rest o a (omega arith))
+          go (yes e) = rw (e, at-here T (suc n) x) here
+          go (no ne) = rw (at-else T (suc n) x o ne) (rest o a (omega arith))
 
       adds : (x : X) (T : ℕ → X) (k : ℕ)
           → sumOver (suc n) (λ o. holds (at T (suc n) x o) k) ≡ holds x k + sumOver n (λ o. holds (T o) k)
       adds x T k = omega (
         arith,
-        ap (λ y. holds y k) (at-same T (suc n) x),
+        ap (λ y. holds y k) (at-here T (suc n) x),
         sum-same n (λ o. holds (at T (suc n) x o) k) (λ o. holds (T o) k)
-            (λ i a b. ap (λ y. holds y k) (at-other T (suc n) x i (λ e. omega arith))),
+            (λ i a b. ap (λ y. holds y k) (at-else T (suc n) x i (λ e. omega arith))),
       )
 
 -- ---- the free chain: it holds just the free records if it marks just those
 
-pub marked : (m : ℕ) → m ≢ 0 → 1 ≤ m
+marked : (m : ℕ) → m ≢ 0 → 1 ≤ m
 marked m ne = omega arith
 
 module _ (n : ℕ) (next f : ℕ → ℕ) (head : ℕ) {s v : List ℕ} where

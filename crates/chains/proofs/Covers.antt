@@ -8,7 +8,8 @@ use native.Mathlib.Omega.{arith}
 use lib.ListN.{getD, replicate, length-replicate}
 use Rattle.layout.specs.Shape.{Chain, times}
 use Rattle.layout.proofs.Field.{within}
-use Rattle.layout.proofs.Counts.{one-other, sum-none}
+use Rattle.rules.proofs.Slots.{sum-zero}
+use Rattle.layout.proofs.Counts.{one-other}
 use Rattle.layout.specs.Decides.{Decides}
 use Rattle.chains.specs.Marking.{AtSlots, Blank, Full, Part, Once, Marking}
 use Rattle.chains.specs.Parts.{chainWith, each}
@@ -44,7 +45,7 @@ in-with n next P head xs h = chain-inside n next head xs (h .0)
 pub each-inside : {X : Type 0} (Fits : ℕ → X → Type 0) (holds : X → ℕ → ℕ) (m n : ℕ)
     → ((o : ℕ) (x : X) → Fits o x → (k : ℕ) → (1 ≤ k → k ≤ n → ⊥) → holds x k ≡ 0) → Inside n (each Fits holds m)
 each-inside Fits holds m n h T fits k out =
-    sum-none m (λ o. holds (T o) k) (λ o a b. h o (T o) (fits o a b) k out)
+    sum-zero m (λ o. holds (T o) k) (λ o a b. h o (T o) (fits o a b) k out)
 
 -- ---- two parts
 

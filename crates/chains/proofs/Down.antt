@@ -6,7 +6,7 @@ use native.Mathlib.Omega.{arith}
 use native.Mathlib.Decide.{ℕ-discrete}
 use Rattle.layout.specs.Decides.{Decides}
 use Rattle.chains.specs.Marking.{AtSlots}
-use Rattle.chains.proofs.Decides.{decides-no}
+use Rattle.layout.proofs.Deciding.{no-it}
 
 pub record Above (n k : ℕ) (P : ℕ → Type 0) : Type 0 where
   pub high : k ≤ n
@@ -27,4 +27,4 @@ module _ {n k : ℕ} {P : ℕ → Type 0} (now : Above n k P) where
   above-end z = record { sound = λ _ i a b. now .above i (omega arith) b; complete = λ _. refl }
 
   pub above-broken : 1 ≤ k → (P k → ⊥) → Decides (AtSlots n P) false
-  above-broken low f = decides-no (λ all. f (all k low (now .high)))
+  above-broken low f = no-it (λ all. f (all k low (now .high)))

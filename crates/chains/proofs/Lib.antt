@@ -1,5 +1,4 @@
 -- Laws that the proofs of this crate's functions share, and those of the check of the trees.
-pub mod Decides
 pub mod Marking
 pub mod Chains
 pub mod Covers

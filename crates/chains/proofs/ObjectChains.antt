@@ -11,7 +11,7 @@ use Rattle.layout.proofs.Field.{within}
 use Rattle.layout.specs.Decides.{Decides}
 use Rattle.chains.specs.Marking.{Part}
 use Rattle.chains.specs.Parts.{chainWith, Any, JustFree}
-use Rattle.chains.proofs.Decides.{decides-as}
+use Rattle.layout.proofs.Deciding.{as-well}
 use Rattle.chains.proofs.Covers.{chain-inside, Covers}
 
 -- a record of a chain has a number from 1 to n
@@ -56,4 +56,4 @@ module _ (l : List ℕ) where
   )
 
   pub objects-decided : {r : Bool} → Decides (Covers 64 freeObjects liveObjects) r → Decides (Objects l) r
-  objects-decided = decides-as objects-of covers-of
+  objects-decided d = as-well d objects-of covers-of

@@ -70,6 +70,7 @@ pub record Checkable (l seen : List ℕ) : Type 0 where
   pub links : length l ≡ Layout.LINKS
   pub marks : Marks 512 seen
 
+-- and o is the slot of an object
 pub record CheckableAt (o : ℕ) (l seen : List ℕ) : Type 0 where
   pub low : 1 ≤ o
   pub high : o ≤ 64

@@ -1,5 +1,4 @@
 -- Laws that the proofs of this crate's functions share.
-pub mod Deciding
 pub mod Cells
 pub mod Counting
 pub mod Unique

@@ -13,9 +13,9 @@ use Rattle.layout.specs.Rows.{masterOf, flagOf, countOf, lengthOf, sumOf, textI
 use Rattle.layout.specs.View.{isSet, isProcess, messages, view}
 use Rattle.layout.specs.Fields.{TotalFits}
 use Rattle.layout.specs.Decides.{Decides}
-use Rattle.layout.proofs.Shown.{set-yes, box-here, box-none, cap-none, parent-is, money-here, money-none}
+use Rattle.layout.proofs.Shown.{box-here, box-none, cap-none, parent-is, money-here, money-none}
 use Rattle.fields.specs.Amount.{ofMaster, masterMoney}
-use Rattle.fields.proofs.Deciding.{at-most}
+use Rattle.layout.proofs.Deciding.{at-most}
 
 -- an object that lives is a process by its flag
 pub by-flag : (b l : List ℕ) (o : ℕ) → masterOf l o ≢ 0

@@ -7,13 +7,13 @@ use mathlib.Core.Bool.{Bool, true, false, _&&_, _||_, false≢true}
 use mathlib.Core.List.{List}
 use native.Mathlib.Omega.{arith}
 use lib.Dec.{eqb, leb, ltb}
-use borrow.Author.Tests.{eqb-false, leb-true, ltb-true, le-leb}
+use borrow.Author.Tests.{eqb-false, leb-true, ltb-true}
 use lib.ListN.{length, getD, set, length-replicate}
 use lib.Seq.{getD-set-same, getD-set-other}
 use Rattle.rules.specs.Slots.{at}
 use Rattle.layout.specs.Rows.{field}
 use Rattle.fresh.specs.Stores.{zeros}
-use Rattle.fresh.proofs.Slots.{is-at}
+use Rattle.layout.proofs.Field.{field-in, at-is}
 
 and-left : (a b : Bool) → (a && b) ≡ true → a ≡ true
 and-left true b h = refl
@@ -27,12 +27,6 @@ or-cases : {A : Type 0} (a b : Bool) → (a || b) ≡ true → (a ≡ true → A
 or-cases true b h f g = f refl
 or-cases false b h f g = g h
 
--- ---- one slot
-
-pub at-slot : (n off : ℕ) (l : List ℕ) (i : ℕ) → 1 ≤ i → i ≤ n → field n off l i ≡ getD l (off + i) 0
-unfolding field
-at-slot n off l i a b = rw (le-leb 1 i a, le-leb i n b, field)
-
 -- fields agree where their cells do
 pub field-agree : (n off : ℕ) (l m : List ℕ) (j : ℕ)
     → (1 ≤ j → j ≤ n → getD l (off + j) 0 ≡ getD m (off + j) 0)
@@ -44,7 +38,7 @@ field-agree n off l m j same = go (leb 1 j && leb j n) refl
     go true e =
         let low : 1 ≤ j = leb-true 1 j (and-left (leb 1 j) (leb j n) e) in
         let high : j ≤ n = leb-true j n (and-right (leb 1 j) (leb j n) e) in
-        at-slot n off l j low high ∙ same low high ∙ sym (at-slot n off m j low high)
+        field-in n off l j low high ∙ same low high ∙ sym (field-in n off m j low high)
     go false e = rw (e, field)
 
 -- ---- a store
@@ -78,8 +72,8 @@ set-slot n off l c v in-row in-list =
     let low : off < c = ltb-true off c (and-left (ltb off c) (leb c (off + n)) in-row) in
     let high : c ≤ off + n = leb-true c (off + n) (and-right (ltb off c) (leb c (off + n)) in-row) in
     let e : off + (c - off) ≡ c = omega arith in
-    is-at (field n off (set l c v)) (field n off l) (c - off) v
-    (at-slot n off (set l c v) (c - off) (omega arith) (omega arith)
+    at-is (field n off l) (field n off (set l c v)) (c - off) v
+    (field-in n off (set l c v) (c - off) (omega arith) (omega arith)
     ∙ rw e (set-here l c v in-list))
     (λ j ne. field-agree n off (set l c v) l j
     (λ a b. getD-set-other l c (off + j) v 0 (λ q. ne (omega arith))))

@@ -14,8 +14,9 @@ use Rattle.rules.specs.Slots.{one}
 use Rattle.layout.specs.Rows.{field}
 use Rattle.layout.specs.Shape.{Chain, times}
 use Rattle.fresh.specs.Stores.{chain, freeChain}
-use Rattle.fresh.proofs.Slots.{by-eq}
-use Rattle.fresh.proofs.Cells.{at-slot, field-agree, apart, apart-cells, set-here, set-else}
+use Rattle.rules.proofs.Tests.{by-eq}
+use Rattle.layout.proofs.Field.{field-in}
+use Rattle.fresh.proofs.Cells.{field-agree, apart, apart-cells, set-here, set-else}
 
 -- ---- cells
 
@@ -145,10 +146,10 @@ free-from n head off first l low high below fits zero-before =
     record {
       free = records first (suc (n - first));
       free-chain = chain-records n (field n off (freeChain head off first n l))
-          (at-slot n off (freeChain head off first n l) n (omega arith) (omega arith)
+          (field-in n off (freeChain head off first n l) n (omega arith) (omega arith)
           ∙ rw e at (chain-last off first (n - first) m in-list))
           first (n - first) low e
-          (λ j a b. at-slot n off (freeChain head off first n l) j (omega arith) (omega arith)
+          (λ j a b. field-in n off (freeChain head off first n l) j (omega arith) (omega arith)
           ∙ chain-next off first (n - first) m j in-list a (omega arith));
       has = λ k a b. times-in first (suc (n - first)) k a (omega arith);
       none = λ k a. times-below first (suc (n - first)) k a;

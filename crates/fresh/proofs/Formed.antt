@@ -15,7 +15,9 @@ use Rattle.layout.specs.Shape.{Chain, times, Forest, nil, node, count, Sound, O
 use Rattle.layout.specs.Shape.{BlockChains, Shape}
 use Rattle.layout.specs.WellFormed.{Sized, Cells, WellFormed}
 use Rattle.fresh.specs.Slices.{freshBytes, freshLinks, freeLinks, firstLinks, freshWords}
-use Rattle.fresh.proofs.Slots.{by-eq, at-else, at-by, sum-zero, sum-only}
+use Rattle.rules.proofs.Tests.{by-eq}
+use Rattle.rules.proofs.Slots.{at-else, at-by, sum-zero}
+use Rattle.fresh.proofs.Slots.{sum-only}
 use Rattle.fresh.proofs.Cells.{length-zeros}
 use Rattle.fresh.proofs.Chains.{length-free, FreeFrom}
 use Rattle.fresh.proofs.Rows.{none, only}

@@ -9,7 +9,8 @@ use Rattle.rules.specs.Store.{Password, State, noObject, noLockword, noMarks, n
 use Rattle.layout.specs.View.{isSet, isProcess, onlyWhere, view}
 use Rattle.layout.specs.View as View
 use Rattle.fresh.specs.Slices.{freshBytes, freshLinks, freshWords}
-use Rattle.fresh.proofs.Slots.{at-else, is-at}
+use Rattle.rules.proofs.Slots.{at-else}
+use Rattle.layout.proofs.Field.{at-is}
 use Rattle.fresh.proofs.Rows.{none, only}
 use Rattle.fresh.proofs.Rows.{flag-row, volume-row, suspended-row, waiting-row, terminated-row, count-row}
 use Rattle.fresh.proofs.Rows.{master-row, serial-row, size-row, owner-row, parent-row, rights-row}
@@ -23,14 +24,14 @@ only-at : {A : Type 0} (test : ℕ → Bool) (none : A) (f : ℕ → A) (i : ℕ
     → onlyWhere test none f ≡ at (λ j. none) i (f i)
 unfolding onlyWhere
 only-at test none f i here else =
-    is-at (onlyWhere test none f) (λ j. none) i (f i) (rw (here, onlyWhere)) (λ j n. rw (else j n, onlyWhere))
+    at-is (λ j. none) (onlyWhere test none f) i (f i) (rw (here, onlyWhere)) (λ j n. rw (else j n, onlyWhere))
 
 -- and what it has is what the others have
 only-same : {A : Type 0} (test : ℕ → Bool) (none : A) (f : ℕ → A) (i : ℕ)
     → test i ≡ true → ((j : ℕ) → j ≢ i → test j ≡ false) → f i ≡ none
     → onlyWhere test none f ≡ (λ j. none)
 only-same test none f i here else same =
-    only-at test none f i here else ∙ sym (is-at (λ j. none) (λ j. none) i (f i) (sym same) (λ j n. refl))
+    only-at test none f i here else ∙ sym (at-is (λ j. none) (λ j. none) i (f i) (sym same) (λ j n. refl))
 
 -- only slot 1 is set, and only slot 1 is a process
 unset : (j : ℕ) → j ≢ 1 → isSet (only 1 j) ≡ false

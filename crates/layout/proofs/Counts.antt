@@ -5,7 +5,7 @@ use native.Mathlib.Omega.{arith}
 use native.Mathlib.Decide.{ℕ-discrete}
 use lib.Dec.{eqb}
 use borrow.Author.Tests.{eq-eqb, ne-eqb}
-use Rattle.rules.specs.Slots.{at, one, sumOver}
+use Rattle.rules.specs.Slots.{one, sumOver}
 
 pub one-same : (k : ℕ) → one (eqb k k) ≡ 1
 unfolding one
@@ -25,25 +25,3 @@ sum-some (suc n) f h = go (ℕ-discrete (f (suc n)) 0) (sum-some n f)
         → (o : ℕ) × (1 ≤ o) × (o ≤ suc n) × (1 ≤ f o)
     go (yes z) r = let t = r (omega arith) in (t .0, t .1, omega (arith, t .2), t .3)
     go (no nz) r = (suc n, omega arith, omega arith, omega arith)
-
-pub sum-same : (n : ℕ) (f g : ℕ → ℕ) → ((i : ℕ) → 1 ≤ i → i ≤ n → f i ≡ g i) → sumOver n f ≡ sumOver n g
-unfolding sumOver
-sum-same zero f g h = refl
-sum-same (suc n) f g h =
-    omega (arith, h (suc n) (omega arith) (omega arith), sum-same n f g (λ i a b. h i a (omega arith)))
-
-pub sum-none : (n : ℕ) (f : ℕ → ℕ) → ((i : ℕ) → 1 ≤ i → i ≤ n → f i ≡ 0) → sumOver n f ≡ 0
-unfolding sumOver
-sum-none zero f h = refl
-sum-none (suc n) f h =
-    omega (arith, h (suc n) (omega arith) (omega arith), sum-none n f (λ i a b. h i a (omega arith)))
-
--- ---- one slot changed
-
-pub at-same : {A : Type 0} (f : ℕ → A) (i : ℕ) (v : A) → at f i v i ≡ v
-unfolding at
-at-same f i v = rw (eq-eqb i i refl, at)
-
-pub at-other : {A : Type 0} (f : ℕ → A) (i : ℕ) (v : A) (j : ℕ) → (j ≡ i → ⊥) → at f i v j ≡ f j
-unfolding at
-at-other f i v j ne = rw (ne-eqb j i ne, at)

@@ -12,7 +12,7 @@ use lib.ListN.{getD, set, drop, length, length-take, length-drop, length-set}
 use lib.Seq.{getD-set-other, getD-set-same, getD-take, getD-drop, take-set-lt, drop-set-add, ext-getD}
 use Rattle.rules.specs.Slots.{at}
 use Rattle.layout.specs.Rows.{field, region}
-use Rattle.layout.proofs.Counts.{at-same, at-other}
+use Rattle.rules.proofs.Slots.{at-here, at-else}
 
 -- ---- slots
 
@@ -30,8 +30,8 @@ pub at-is : {A : Type 0} (f g : ℕ → A) (i : ℕ) (v : A) → g i ≡ v → (
 at-is f g i v here else = fun-ext (λ j. go j (ℕ-discrete j i))
   where
     go : (j : ℕ) → Dec (j ≡ i) → g j ≡ at f i v j
-    go j (yes e) = rw (e, at-same) here
-    go j (no ne) = else j ne ∙ sym (at-other f i v j ne)
+    go j (yes e) = rw (e, at-here) here
+    go j (no ne) = else j ne ∙ sym (at-else f i v j ne)
 
 -- a change of slot i is the same to two functions at a slot where they are
 pub at-ap : {A : Type 0} (f g : ℕ → A) (i : ℕ) (v : A) (j : ℕ) → f j ≡ g j → at f i v j ≡ at g i v j
@@ -101,8 +101,8 @@ module _ (n off : ℕ) (l : List ℕ) (i v : ℕ) (high : i ≤ n) (fits : off +
   field-same-at j low = go (ℕ-discrete j i)
     where
       go : Dec (j ≡ i) → field n off (set l (off + i) v) j ≡ at (field n off l) i v j
-      go (yes e) = rw (e, at-same) (same-here (omega arith))
-      go (no ne) = same-else j ne ∙ sym (at-other (field n off l) i v j ne)
+      go (yes e) = rw (e, at-here) (same-here (omega arith))
+      go (no ne) = same-else j ne ∙ sym (at-else (field n off l) i v j ne)
 
 -- ---- a region of n cells from off on
 

@@ -13,3 +13,5 @@ pub mod Shaped
 pub mod Room
 pub mod Formed
 pub mod Asked
+-- answers that are right both ways
+pub mod Deciding

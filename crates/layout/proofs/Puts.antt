@@ -13,7 +13,7 @@ use lib.ListN.{getD, set, length, length-set}
 use lib.Seq.{getD-set-other, getD-set-same}
 use Rattle.rules.specs.Slots.{at}
 use Rattle.layout.specs.Rows.{field, region}
-use Rattle.layout.proofs.Counts.{at-other}
+use Rattle.rules.proofs.Slots.{at-else}
 use Rattle.layout.proofs.Field.{at-ap, field-out, field-other, field-same-at, region-other}
 
 -- the value v to slot i of the row that starts at off and has slots up to n; a head is slot 0 of a row of 0
@@ -86,7 +86,7 @@ row-zero off (put m p i v ∷ ws) f s = go (eqb p off) refl (s .0) (row-zero off
         → rowOf off ws f 0 ≡ f 0 → rowOf off (put m p i v ∷ ws) f 0 ≡ f 0
     go true e q ih =
         let low : 1 ≤ i = rw e at q in
-        rw (e, rowOf) (at-other (rowOf off ws f) i v 0 (omega arith) ∙ ih)
+        rw (e, rowOf) (at-else (rowOf off ws f) i v 0 (omega arith) ∙ ih)
     go false e q ih = rw (e, rowOf) ih
 
 module _ (n off : ℕ) (l : List ℕ) (fits : off + n < length l) where

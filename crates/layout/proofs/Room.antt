@@ -12,13 +12,14 @@ use Rattle.rules.specs.Store.{noObject, blocks}
 use Rattle.layout.specs.Rows.{masterOf, firstBlockOf, nextBlockOf}
 use Rattle.layout.specs.View.{view}
 use Rattle.layout.specs.Shape.{Chain, times, Blocks}
-use Rattle.layout.proofs.Counts.{one-same, one-other, sum-same, sum-none}
+use Rattle.rules.proofs.Slots.{sum-same, sum-zero}
+use Rattle.layout.proofs.Counts.{one-same, one-other}
 use Rattle.layout.proofs.Shown.{object-here, object-none}
 
 -- ---- sums
 
-sum-zero : (n : ℕ) → sumOver n (λ i. 0) ≡ 0
-sum-zero n = sum-none n (λ i. 0) (λ i _ _. refl)
+sum-zeros : (n : ℕ) → sumOver n (λ i. 0) ≡ 0
+sum-zeros n = sum-zero n (λ i. 0) (λ i _ _. refl)
 
 sum-add : (n : ℕ) (f g : ℕ → ℕ) → sumOver n (λ i. f i + g i) ≡ sumOver n f + sumOver n g
 unfolding sumOver
@@ -29,7 +30,7 @@ sum-add (suc n) f g = omega (arith, sum-add n f g)
 sum-swap : (n m : ℕ) (f : ℕ → ℕ → ℕ)
     → sumOver n (λ i. sumOver m (λ j. f i j)) ≡ sumOver m (λ j. sumOver n (λ i. f i j))
 unfolding sumOver
-sum-swap zero m f = sym (sum-zero m)
+sum-swap zero m f = sym (sum-zeros m)
 sum-swap (suc n) m f =
     omega (arith, sum-swap n m f, sum-add m (λ j. f (suc n) j) (λ j. sumOver n (λ i. f i j)))
 
@@ -50,7 +51,7 @@ sum-once (suc n) j p q = go (ℕ-discrete (suc n) j) (sum-once n j p)
       arith,
       ap (λ i. one (eqb (suc n) i)) e,
       one-same (suc n),
-      sum-none n (λ k. one (eqb k j)) (λ k a b. one-other k j (omega arith)),
+      sum-zero n (λ k. one (eqb k j)) (λ k a b. one-other k j (omega arith)),
     )
     go (no ne) r = omega (arith, one-other (suc n) j ne, r (omega arith))
 
@@ -60,7 +61,7 @@ sum-once (suc n) j p q = go (ℕ-discrete (suc n) j) (sum-once n j p)
 chain-length : (n : ℕ) (next : ℕ → ℕ) (head : ℕ) (xs : List ℕ) → Chain n next head xs
     → sumOver n (λ k. times k xs) ≡ length xs
 unfolding Chain times
-chain-length n next head [] c = sum-zero n
+chain-length n next head [] c = sum-zeros n
 chain-length n next head (j ∷ xs) c =
     omega (
       arith,
@@ -76,7 +77,7 @@ module _ (b l w : List ℕ) (s : Blocks l) where
   need o p q = go (ℕ-discrete (masterOf l o) 0)
     where
       go : Dec (masterOf l o ≡ 0) → blocks (view b l w .object o .size) ≡ sumOver 512 (λ k. times k (s .chain o))
-      go (yes z) = rw (object-none b l w o z, s .chains o p q .dead z) (sym (sum-zero 512))
+      go (yes z) = rw (object-none b l w o z, s .chains o p q .dead z) (sym (sum-zeros 512))
       go (no alive) =
           let c = s .chains o p q .live alive in
           rw (object-here b l w o alive) (sym (chain-length 512 (nextBlockOf l) (firstBlockOf l o) (s .chain o) (c .0)

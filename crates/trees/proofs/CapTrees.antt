@@ -15,7 +15,7 @@ use Rattle.layout.proofs.Shaped.{CapShaped, cap-held}
 use Rattle.layout.specs.Decides.{Decides}
 use Rattle.chains.specs.Marking.{Part}
 use Rattle.chains.specs.Parts.{chainWith, JustFree}
-use Rattle.chains.proofs.Decides.{decides-as}
+use Rattle.layout.proofs.Deciding.{as-well}
 use Rattle.chains.proofs.Covers.{Inside, each-inside, Covers}
 use Rattle.chains.proofs.ObjectChains.{in-chain}
 use Rattle.trees.specs.Parts.{treesOfAll}
@@ -70,4 +70,4 @@ module _ (l : List ℕ) where
       owned k t z = omega (arith, t .1 .owner-is, t .1 .owner-low)
 
   pub caps-decided : {r : Bool} → Decides (Covers 512 freeCaps (treesOfAll l 64)) r → Decides (Caps l) r
-  caps-decided = decides-as caps-of covers-of
+  caps-decided d = as-well d caps-of covers-of

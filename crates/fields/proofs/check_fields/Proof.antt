@@ -1,5 +1,5 @@
 -- `check_fields` asks each part of Fields.
-use Rattle.fields.proofs.Deciding.{no-it, as-well, refused, granted}
+use Rattle.layout.proofs.Deciding.{no-it, as-well, refused, granted}
 use borrow.Author.Needs.{needs}
 use Rattle.fields.proofs.check_fields.Statement.{statement}
 use Rattle.fields.proofs.check_fields.Tie as tie

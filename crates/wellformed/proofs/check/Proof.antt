@@ -3,7 +3,7 @@ use native.Mathlib.Omega.{arith}
 use borrow.Author.Needs.{needs}
 use Rattle.layout.proofs.Formed.{formed}
 use Rattle.layout.proofs.Asked.{fields}
-use Rattle.fields.proofs.Deciding.{no-it, as-well, refuted}
+use Rattle.layout.proofs.Deciding.{no-it, as-well, refuted}
 use Rattle.wellformed.proofs.check.Statement.{statement}
 use Rattle.wellformed.proofs.check.Tie as tie
 

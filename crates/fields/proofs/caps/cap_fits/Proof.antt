@@ -1,6 +1,6 @@
 -- `cap_fits` tests each part of CapFits where the slot holds a capability.
 use native.Mathlib.Omega.{arith}
-use Rattle.fields.proofs.Deciding.{no-it, as-well}
+use Rattle.layout.proofs.Deciding.{no-it, as-well}
 use borrow.Author.Needs.{needs}
 use Rattle.fields.proofs.caps.cap_fits.Statement.{statement}
 use Rattle.fields.proofs.caps.cap_fits.Tie as tie

@@ -4,7 +4,7 @@ use native.Mathlib.Omega.{arith}
 use borrow.Author.Needs.{needs}
 use Rattle.layout.specs.Layout as Layout
 use Rattle.fields.specs.Parts.{CapMeets}
-use Rattle.fields.proofs.Deciding.{yes-it, no-it, refuted}
+use Rattle.layout.proofs.Deciding.{yes-it, no-it, refuted}
 use Rattle.fields.proofs.caps.caps_fit.Statement.{statement}
 use Rattle.fields.proofs.caps.caps_fit.Tie as tie
 

@@ -1,7 +1,7 @@
 -- `is_whole` tests both ends of the window.
 use native.Mathlib.Omega.{arith}
 use mathlib.Core.Path.{sym, _∙_}
-use Rattle.fields.proofs.Deciding.{no-it, as-well, equal}
+use Rattle.layout.proofs.Deciding.{no-it, as-well, equal}
 use borrow.Author.Needs.{needs}
 use Rattle.fields.proofs.caps.is_whole.Statement.{statement}
 use Rattle.fields.proofs.caps.is_whole.Tie as tie

@@ -1,6 +1,6 @@
 -- `is_within` tests the rights and both ends of the window.
 use native.Mathlib.Omega.{arith}
-use Rattle.fields.proofs.Deciding.{no-it, as-well, at-most}
+use Rattle.layout.proofs.Deciding.{no-it, as-well, at-most}
 use borrow.Author.Needs.{needs}
 use Rattle.fields.proofs.caps.is_within.Statement.{statement}
 use Rattle.fields.proofs.caps.is_within.Tie as tie

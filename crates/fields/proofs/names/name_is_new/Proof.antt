@@ -4,7 +4,7 @@ use borrow.Author.Needs.{needs}
 use Rattle.fields.specs.Distinct.{SameName}
 use Rattle.fields.proofs.Counting.{Above, above-more}
 use Rattle.fields.proofs.Unique.{Differs, by-name, differs-past}
-use Rattle.fields.proofs.Deciding.{yes-it, no-it, refuted}
+use Rattle.layout.proofs.Deciding.{yes-it, no-it, refuted}
 use Rattle.fields.proofs.names.name_is_new.Statement.{statement}
 use Rattle.fields.proofs.names.name_is_new.Tie as tie
 

@@ -4,7 +4,7 @@ use borrow.Author.Needs.{needs}
 use Rattle.fields.specs.Distinct.{SameName, NoneAbove}
 use Rattle.fields.proofs.Counting.{Above, above-more}
 use Rattle.fields.proofs.Unique.{by-name, none-past, all-differ, none-same, names-unique, names-differ}
-use Rattle.fields.proofs.Deciding.{yes-it, no-it, refuted}
+use Rattle.layout.proofs.Deciding.{yes-it, no-it, refuted}
 use Rattle.fields.proofs.names.names_unique.Statement.{statement}
 use Rattle.fields.proofs.names.names_unique.Tie as tie
 

@@ -1,6 +1,6 @@
 -- `same_name` tests each part of SameName.
 use native.Mathlib.Omega.{arith}
-use Rattle.fields.proofs.Deciding.{no-it, as-well, differs}
+use Rattle.layout.proofs.Deciding.{no-it, as-well, differs}
 use borrow.Author.Needs.{needs}
 use Rattle.fields.proofs.names.same_name.Statement.{statement}
 use Rattle.fields.proofs.names.same_name.Tie as tie

@@ -6,7 +6,7 @@ use native.Mathlib.Omega.{arith}
 use borrow.Author.Needs.{needs}
 use Rattle.layout.specs.Rows.{countOf, lengthOf}
 use Rattle.fields.proofs.Counting.{Above, above-more}
-use Rattle.fields.proofs.Deciding.{yes-it, no-it}
+use Rattle.layout.proofs.Deciding.{yes-it, no-it}
 use Rattle.fields.proofs.objects.lengths_fit.Statement.{statement}
 use Rattle.fields.proofs.objects.lengths_fit.Tie as tie
 

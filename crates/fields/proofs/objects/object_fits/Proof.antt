@@ -1,6 +1,6 @@
 -- `object_fits` tests each part of ObjectFits where the slot holds an object.
 use native.Mathlib.Omega.{arith}
-use Rattle.fields.proofs.Deciding.{no-it, as-well}
+use Rattle.layout.proofs.Deciding.{no-it, as-well}
 use borrow.Author.Needs.{needs}
 use Rattle.fields.proofs.objects.object_fits.Statement.{statement}
 use Rattle.fields.proofs.objects.object_fits.Tie as tie

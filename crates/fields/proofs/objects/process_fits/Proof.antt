@@ -1,6 +1,6 @@
 -- `process_fits` tests each part of ProcessFits.
 use native.Mathlib.Omega.{arith}
-use Rattle.fields.proofs.Deciding.{no-it, as-well}
+use Rattle.layout.proofs.Deciding.{no-it, as-well}
 use borrow.Author.Needs.{needs}
 use Rattle.fields.proofs.objects.process_fits.Statement.{statement}
 use Rattle.fields.proofs.objects.process_fits.Tie as tie

@@ -3,7 +3,7 @@ use native.Mathlib.Omega.{arith}
 use mathlib.Core.Path.{ap₂, _∙_}
 use Rattle.fields.specs.Distinct.{bucket}
 use Rattle.fields.proofs.Entering.{no-mark, one-mark, unmarked}
-use Rattle.fields.proofs.Deciding.{yes-it}
+use Rattle.layout.proofs.Deciding.{yes-it}
 use borrow.Author.Needs.{needs}
 use Rattle.fields.proofs.passwords.enter.Statement.{statement}
 use Rattle.fields.proofs.passwords.enter.Tie as tie

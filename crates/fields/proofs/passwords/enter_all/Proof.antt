@@ -6,7 +6,7 @@ use mathlib.Core.Path.{sym, _∙_}
 use Rattle.fields.specs.Distinct.{SamePassword, NoneAbove, Table}
 use Rattle.fields.proofs.Counting.{Above, above-more}
 use Rattle.fields.proofs.Entering.{no-slot}
-use Rattle.fields.proofs.Deciding.{yes-it, no-it, refuted}
+use Rattle.layout.proofs.Deciding.{yes-it, no-it, refuted}
 use Rattle.fields.proofs.passwords.enter_all.Statement.{statement}
 use Rattle.fields.proofs.passwords.enter_all.Tie as tie
 

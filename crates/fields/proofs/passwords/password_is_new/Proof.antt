@@ -4,7 +4,7 @@ use borrow.Author.Needs.{needs}
 use Rattle.fields.specs.Distinct.{SamePassword}
 use Rattle.fields.proofs.Counting.{Above, above-more}
 use Rattle.fields.proofs.Unique.{Differs, by-password, differs-past}
-use Rattle.fields.proofs.Deciding.{yes-it, no-it, refuted}
+use Rattle.layout.proofs.Deciding.{yes-it, no-it, refuted}
 use Rattle.fields.proofs.passwords.password_is_new.Statement.{statement}
 use Rattle.fields.proofs.passwords.password_is_new.Tie as tie
 

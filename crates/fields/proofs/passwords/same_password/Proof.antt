@@ -1,6 +1,6 @@
 -- `same_password` tests each part of SamePassword.
 use native.Mathlib.Omega.{arith}
-use Rattle.fields.proofs.Deciding.{no-it, as-well, equal}
+use Rattle.layout.proofs.Deciding.{no-it, as-well, equal}
 use borrow.Author.Needs.{needs}
 use Rattle.fields.proofs.passwords.same_password.Statement.{statement}
 use Rattle.fields.proofs.passwords.same_password.Tie as tie

@@ -8,7 +8,7 @@ use borrow.Fn.Kinds.{In}
 use borrow.Fn.PlainCycle.{Measures, is, falls, and}
 use lib.ListN.{length-set}
 use Rattle.layout.proofs.Counts.{one-same}
-use Rattle.chains.proofs.Decides.{decides-fails}
+use Rattle.layout.proofs.Deciding.{refuted}
 use Rattle.chains.proofs.Marking.{marking-broken, marking-falls, marks-after}
 use Rattle.chains.proofs.Marking.{unvisited, visit-marks, visit-falls}
 use Rattle.trees.proofs.Trees.{record-refused, record-step, children-made, children-step, children-end}
@@ -161,7 +161,7 @@ module _ (t : ℕ) where
 
   record-returns-4 : check-record-lts.Need-returns-4 record-calls record-at check-record.Post
   record-returns-4 c =
-      record-refused _ _ _ _ _ (λ a z. decides-fails (c .before .agrees .ensures) (c .if1 .left) a)
+      record-refused _ _ _ _ _ (λ a z. refuted (c .before .agrees .ensures) (c .if1 .left) a)
 
 pub +check-chain+check-record-spec : {M : Type 1} → statement M
 +check-chain+check-record-spec = close μ-check-chain μ-check-record

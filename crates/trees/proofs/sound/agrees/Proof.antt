@@ -9,7 +9,7 @@ use lib.ListN.{getD}
 use Rattle.layout.specs.Layout as Layout
 use Rattle.layout.specs.Rows.{field}
 use Rattle.layout.proofs.Field.{field-in}
-use Rattle.chains.proofs.Decides.{decides-no}
+use Rattle.layout.proofs.Deciding.{no-it}
 use Rattle.trees.proofs.sound.agrees.Statement.{statement}
 use Rattle.trees.proofs.sound.agrees.Tie as tie
 
@@ -19,16 +19,16 @@ cell : (off : ℕ) (l : List ℕ) (j : ℕ) {x : ℕ} → 1 ≤ j → j ≤ 512 
 cell off l j low high e = sym (field-in 512 off l j low high) ∙ e
 
 returns : tie.Need-returns
-returns c = decides-no (λ a. omega (arith, a .low))
+returns c = no-it (λ a. omega (arith, a .low))
 
 returns-2 : tie.Need-returns-2
-returns-2 c = decides-no (λ a. omega (arith, a .high))
+returns-2 c = no-it (λ a. omega (arith, a .high))
 
 returns-3 : tie.Need-returns-3
-returns-3 c = decides-no (λ a. c .if3 .taken (cell Layout.OWNER _ _ (a .low) (a .high) (a .owner-is)))
+returns-3 c = no-it (λ a. c .if3 .taken (cell Layout.OWNER _ _ (a .low) (a .high) (a .owner-is)))
 
 returns-4 : tie.Need-returns-4
-returns-4 c = decides-no (λ a. c .if4 .taken (cell Layout.PARENT _ _ (a .low) (a .high) (a .parent-is)))
+returns-4 c = no-it (λ a. c .if4 .taken (cell Layout.PARENT _ _ (a .low) (a .high) (a .parent-is)))
 
 returns-5 : tie.Need-returns-5
 returns-5 c =

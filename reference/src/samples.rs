@@ -1,0 +1,84 @@
+//! Stores to try the checkers on: those met in random runs of all profiles, and full ones of
+//! given shapes.
+
+use crate::call::Name;
+use crate::encode::shuffled;
+use crate::generate::Generator;
+use crate::kernel::{Capability, Object, Store, MAX_CAPABILITIES, MAX_RIGHTS};
+use crate::profiles::{Profile, PROFILES};
+use crate::random::Random;
+use std::collections::BTreeSet;
+
+/// Hands out every so manieth store of a random run of a profile, the fresh one included.
+pub fn stores_of_run(profile: Profile, seed: u64, every: u32, visit: &mut impl FnMut(&Store)) {
+    let mut generator = Generator::new(profile, seed);
+    let [supply, p1, p2] = generator.first();
+    let mut store = Store::fresh(supply, p1, p2);
+    for call in 0..=profile.calls {
+        if call % every == 0 {
+            visit(&store);
+        }
+        let next = generator.next_call(&store);
+        store.run(&next);
+    }
+}
+
+/// Hands out stores of one run of each profile.
+pub fn stores_of_runs(seed: u64, every: u32, visit: &mut impl FnMut(&Store)) {
+    for profile in PROFILES {
+        stores_of_run(profile, seed, every, visit);
+    }
+}
+
+/// The shape of an object's tree: which of the earlier capabilities a new one derives from.
+#[derive(Clone, Copy, Debug, PartialEq, Eq)]
+pub enum Shape {
+    /// All are children of the master.
+    Wide,
+    /// Each is the child of the one before.
+    Deep,
+    /// Each is the child of any one before.
+    Random,
+}
+
+impl Shape {
+    fn parent(self, at: u32, random: &mut Random) -> u32 {
+        match self {
+            Shape::Wide => 0,
+            Shape::Deep => at - 1,
+            Shape::Random => random.below(at),
+        }
+    }
+}
+
+/// A store of so many processes, each with so many bytes and a tree of so many capabilities.
+pub fn shaped(objects: u32, size: usize, tree: u32, shape: Shape, random: &mut Random) -> Store {
+    assert!(objects * tree <= MAX_CAPABILITIES as u32);
+    let mut store = Store::default();
+    for serial in 0..objects {
+        let name = Name { volume: serial % 4, serial };
+        let object = Object { bytes: random.bytes(size), process: true, ..Object::default() };
+        store.objects.insert(name, object);
+        let p1 = distinct(tree, random);
+        for at in 0..tree {
+            let parent = (at > 0).then(|| p1[shape.parent(at, random) as usize]);
+            let capability = whole(random.below(u32::MAX), parent, size);
+            store.capabilities.insert((name, p1[at as usize]), capability);
+        }
+    }
+    store
+}
+
+/// So many random numbers, no two the same, in random order.
+fn distinct(count: u32, random: &mut Random) -> Vec<u32> {
+    let mut found = BTreeSet::new();
+    while found.len() < count as usize {
+        found.insert(random.bits() as u32);
+    }
+    shuffled(found, random)
+}
+
+fn whole(p2: u32, parent: Option<u32>, size: usize) -> Capability {
+    let end = u32::try_from(size).unwrap_or(u32::MAX);
+    Capability { p2, parent, moneyword: 1000, start: 0, end, rights: MAX_RIGHTS }
+}
