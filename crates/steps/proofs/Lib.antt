@@ -1,0 +1,10 @@
+-- Laws of the steps, and the proofs of the functions.
+pub mod Finding
+pub mod Fitting
+pub mod Callers
+pub mod Holding
+pub mod Paying
+pub mod Entering
+pub mod Charging
+pub mod Marking
+pub mod Meeting

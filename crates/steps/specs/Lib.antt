@@ -1,0 +1,7 @@
+-- What all calls share.
+pub mod Request
+pub mod Run
+-- the steps of every call
+pub mod Refuses
+pub mod Tests
+pub mod Paying

@@ -1,0 +1,39 @@
+-- The rules' tests of one slot, each by its name, and the slots and slices of which the code asks them.
+use Prim.Native.Nat.{ℕ, _≤_}
+use mathlib.Core.Path.{_≡_}
+use mathlib.Core.Bool.{Bool, not, _&&_, _||_}
+use mathlib.Core.List.{List}
+use lib.Dec.{eqb}
+use lib.ListN.{length}
+use Rattle.rules.specs.Store.{Name, Password, State, sameName, samePassword}
+use Rattle.layout.specs.Layout as Layout
+use Rattle.layout.specs.Rows.{suspendedOf, waitingOf, terminatedOf}
+use Rattle.layout.specs.View.{isSet}
+
+pub record Sizes (b l : List ℕ) : Type 0 where
+  pub bytes : length b ≡ Layout.BYTES
+  pub links : length l ≡ Layout.LINKS
+
+pub record CapSizes (l w : List ℕ) : Type 0 where
+  pub links : length l ≡ Layout.LINKS
+  pub words : length w ≡ Layout.WORDS
+
+pub record ObjectSlot (o : ℕ) : Type 0 where
+  pub low : 1 ≤ o
+  pub high : o ≤ 64
+
+pub record CapSlot (i : ℕ) : Type 0 where
+  pub low : 1 ≤ i
+  pub high : i ≤ 512
+
+-- slot o holds a living object of this name
+unfoldable pub named : State → Name → ℕ → Bool
+named s n o = s .object o .live && sameName (s .object o .name) n
+
+-- no mark of slot o is set
+unfoldable pub unmarked : List ℕ → ℕ → Bool
+unmarked b o = not (isSet (suspendedOf b o) || isSet (waitingOf b o) || isSet (terminatedOf b o))
+
+-- slot i holds a capability of object o with this password
+unfoldable pub held : State → ℕ → Password → ℕ → Bool
+held s o p i = eqb (s .cap i .object) o && samePassword (s .cap i .password) p

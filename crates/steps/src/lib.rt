@@ -1,0 +1,7 @@
+// What all calls share: the request and the reply, and the steps from a request to the call's own part.
+pub mod objects;
+pub mod pay;
+pub mod present;
+pub mod ranges;
+pub mod request;
+pub mod widen;

@@ -1,0 +1,21 @@
+// A cell of the bytes or the links as a wider number.
+ghost use mathlib.Core.Path.{_≡_};
+
+pub fn wide8(cell: u8) -> u32
+    ensures { λ r. ⌜ r ≡ cell ⌝ }
+{
+    cell as u32
+}
+
+pub fn wide16(link: u16) -> u32
+    ensures { λ r. ⌜ r ≡ link ⌝ }
+{
+    link as u32
+}
+
+// The slot that a link names.
+pub fn slot(link: u16) -> usize
+    ensures { λ r. ⌜ r ≡ link ⌝ }
+{
+    link as usize
+}
