@@ -3,7 +3,7 @@
 use Prim.Native.Nat.{ℕ, zero, suc, _+_, _-_, _≤_, _<_}
 use mathlib.Core.Path.{_≡_, refl, sym, _∙_, fun-ext}
 use mathlib.Core.Logic.{_≢_}
-use mathlib.Core.Bool.{Bool, true, false, _&&_, _||_, false≢true}
+use mathlib.Core.Bool.{Bool, true, false, _&&_, _||_}
 use mathlib.Core.List.{List}
 use native.Mathlib.Omega.{arith}
 use lib.Dec.{eqb, leb, ltb}
@@ -11,17 +11,10 @@ use borrow.Author.Tests.{eqb-false, leb-true, ltb-true}
 use lib.ListN.{length, getD, set, length-replicate}
 use lib.Seq.{getD-set-same, getD-set-other}
 use Rattle.rules.specs.Slots.{at}
+use Rattle.rules.proofs.Tests.{all2}
 use Rattle.layout.specs.Rows.{field}
 use Rattle.fresh.specs.Stores.{zeros}
 use Rattle.layout.proofs.Field.{field-in, at-is}
-
-and-left : (a b : Bool) → (a && b) ≡ true → a ≡ true
-and-left true b h = refl
-and-left false b h = h
-
-and-right : (a b : Bool) → (a && b) ≡ true → b ≡ true
-and-right true b h = h
-and-right false b h = absurd (false≢true h)
 
 or-cases : {A : Type 0} (a b : Bool) → (a || b) ≡ true → (a ≡ true → A) → (b ≡ true → A) → A
 or-cases true b h f g = f refl
@@ -36,8 +29,8 @@ field-agree n off l m j same = go (leb 1 j && leb j n) refl
   where
     go : (u : Bool) → (leb 1 j && leb j n) ≡ u → field n off l j ≡ field n off m j
     go true e =
-        let low : 1 ≤ j = leb-true 1 j (and-left (leb 1 j) (leb j n) e) in
-        let high : j ≤ n = leb-true j n (and-right (leb 1 j) (leb j n) e) in
+        let low : 1 ≤ j = leb-true 1 j (all2 (leb 1 j) (leb j n) e .0) in
+        let high : j ≤ n = leb-true j n (all2 (leb 1 j) (leb j n) e .1) in
         field-in n off l j low high ∙ same low high ∙ sym (field-in n off m j low high)
     go false e = rw (e, field)
 
@@ -69,8 +62,8 @@ pub set-slot : (n off : ℕ) (l : List ℕ) (c v : ℕ)
     → (ltb off c && leb c (off + n)) ≡ true → ltb c (length l) ≡ true
     → field n off (set l c v) ≡ at (field n off l) (c - off) v
 set-slot n off l c v in-row in-list =
-    let low : off < c = ltb-true off c (and-left (ltb off c) (leb c (off + n)) in-row) in
-    let high : c ≤ off + n = leb-true c (off + n) (and-right (ltb off c) (leb c (off + n)) in-row) in
+    let low : off < c = ltb-true off c (all2 (ltb off c) (leb c (off + n)) in-row .0) in
+    let high : c ≤ off + n = leb-true c (off + n) (all2 (ltb off c) (leb c (off + n)) in-row .1) in
     let e : off + (c - off) ≡ c = omega arith in
     at-is (field n off l) (field n off (set l c v)) (c - off) v
     (field-in n off (set l c v) (c - off) (omega arith) (omega arith)

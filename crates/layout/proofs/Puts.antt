@@ -3,7 +3,7 @@
 use Prim.Native.Nat.{ℕ, suc, _+_, _≤_, _<_}
 use mathlib.Core.Path.{_≡_, refl, sym, ap, _∙_, fun-ext}
 use mathlib.Core.Logic.{_≢_}
-use mathlib.Core.Bool.{Bool, true, false, _&&_, _||_, false≢true}
+use mathlib.Core.Bool.{Bool, true, false, _&&_, _||_}
 use mathlib.Core.List.{List, [], _∷_}
 use native.Mathlib.Omega.{arith}
 use native.Mathlib.Decide.{ℕ-discrete}
@@ -13,6 +13,7 @@ use lib.ListN.{getD, set, length, length-set}
 use lib.Seq.{getD-set-other, getD-set-same}
 use Rattle.rules.specs.Slots.{at}
 use Rattle.layout.specs.Rows.{field, region}
+use Rattle.rules.proofs.Tests.{all2}
 use Rattle.rules.proofs.Slots.{at-else}
 use Rattle.layout.proofs.Field.{at-ap, field-out, field-other, field-same-at, region-other}
 
@@ -67,10 +68,6 @@ headOf h (put m p i v ∷ ws) x = elim (eqb p h) [ true ↦ v | false ↦ headOf
 
 -- ---- the laws
 
-and-both : (a b : Bool) → (a && b) ≡ true → (a ≡ true) × (b ≡ true)
-and-both true b h = (refl, h)
-and-both false b h = absurd (false≢true h)
-
 apart-cells : (n off m p i j : ℕ) → apart n off m p ≡ true → i < n → j < m → off + i ≢ p + j
 apart-cells n off m p i j h a b = go (leb (off + n) p) refl h
   where
@@ -108,7 +105,7 @@ module _ (n off : ℕ) (l : List ℕ) (fits : off + n < length l) where
       → field n off (puts ws l) k ≡ rowOf off ws (field n off l) k
   field-puts-at [] t s k low = refl
   field-puts-at (put m p i v ∷ ws) t s k low =
-      let b = and-both (elim (eqb p off) [ true ↦ eqb m n | false ↦ apart (suc n) off (suc m) p ]) (tidy n off ws) t in
+      let b = all2 (elim (eqb p off) [ true ↦ eqb m n | false ↦ apart (suc n) off (suc m) p ]) (tidy n off ws) t in
       step-at m p i v ws k (eqb p off) refl low (s .0) (b .0) (field-puts-at ws (b .1) (s .1) k low)
 
   pub field-puts : (ws : List Put) → tidy n off ws ≡ true → Within ws → Some off ws
@@ -125,7 +122,7 @@ pub head-puts : (h : ℕ) (l : List ℕ) → h < length l → (ws : List Put) �
     → getD (puts ws l) h 0 ≡ headOf h ws (getD l h 0)
 head-puts h l fits [] t s = refl
 head-puts h l fits (put m p i v ∷ ws) t s =
-    let b = and-both (elim (eqb p h) [ true ↦ eqb m 0 | false ↦ apart 1 h (suc m) p ]) (tidy 0 h ws) t in
+    let b = all2 (elim (eqb p h) [ true ↦ eqb m 0 | false ↦ apart 1 h (suc m) p ]) (tidy 0 h ws) t in
     go (eqb p h) refl (b .0) (head-puts h l fits ws (b .1) (s .1))
   where
     go : (u : Bool) → eqb p h ≡ u → elim (eqb p h) [ true ↦ eqb m 0 | false ↦ apart 1 h (suc m) p ] ≡ true
@@ -142,7 +139,7 @@ module _ (n off : ℕ) (l : List ℕ) where
   pub field-kept : (ws : List Put) → beside (suc n) off ws ≡ true → Within ws → field n off (puts ws l) ≡ field n off l
   field-kept [] t s = refl
   field-kept (put m p i v ∷ ws) t s =
-      let b = and-both (apart (suc n) off (suc m) p) (beside (suc n) off ws) t in
+      let b = all2 (apart (suc n) off (suc m) p) (beside (suc n) off ws) t in
       field-other n off (puts ws l) (p + i) v (λ j _ a. apart-cells (suc n) off (suc m) p j i (b .0)
       (omega arith) (omega (arith, s .0)))
       ∙ field-kept ws (b .1) (s .1)
@@ -150,6 +147,6 @@ module _ (n off : ℕ) (l : List ℕ) where
   pub region-kept : (ws : List Put) → beside n off ws ≡ true → Within ws → region n off (puts ws l) ≡ region n off l
   region-kept [] t s = refl
   region-kept (put m p i v ∷ ws) t s =
-      let b = and-both (apart n off (suc m) p) (beside n off ws) t in
+      let b = all2 (apart n off (suc m) p) (beside n off ws) t in
       region-other n off (puts ws l) (p + i) v (λ j a. apart-cells n off (suc m) p j i (b .0) a (omega (arith, s .0)))
       ∙ region-kept ws (b .1) (s .1)
