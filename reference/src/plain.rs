@@ -10,7 +10,7 @@ pub fn check(bytes: &[u8], links: &[u16], words: &[u32]) -> bool {
     check_with::<false>(bytes, links, words)
 }
 
-/// The same, with the p1 compared in pairs.
+/// The same, with the p1 compared in pairs of slots.
 pub fn check_in_pairs(bytes: &[u8], links: &[u16], words: &[u32]) -> bool {
     check_with::<true>(bytes, links, words)
 }
@@ -29,9 +29,11 @@ fn check_with<const PAIRS: bool>(bytes: &[u8], links: &[u16], words: &[u32]) -> 
         blocks: Marks::new(),
         names: Table::new(),
         passwords: Table::new(),
-        earlier: List::new(),
     };
-    pass.all_objects() && pass.free_records() && pass.total <= u64::from(u32::MAX)
+    pass.all_objects()
+        && pass.free_records()
+        && (!PAIRS || pass.p1_differ())
+        && pass.total <= u64::from(u32::MAX)
 }
 
 /// Which slots below `N` were met. Slot 0 counts as met.
@@ -105,28 +107,6 @@ impl<const N: usize> Table<N> {
     }
 }
 
-/// A list of at most `N` numbers, each compared with all before it.
-struct List<const N: usize> {
-    numbers: [u32; N],
-    count: usize,
-}
-
-impl<const N: usize> List<N> {
-    fn new() -> Self {
-        List { numbers: [0; N], count: 0 }
-    }
-
-    /// Adds a number; false if it was there.
-    fn insert(&mut self, number: u32) -> bool {
-        if self.numbers[..self.count].contains(&number) {
-            return false;
-        }
-        self.numbers[self.count] = number;
-        self.count += 1;
-        true
-    }
-}
-
 struct Pass<'a, const PAIRS: bool> {
     bytes: &'a [u8],
     links: &'a [u16],
@@ -137,7 +117,6 @@ struct Pass<'a, const PAIRS: bool> {
     blocks: Marks<513>,
     names: Table<128>,
     passwords: Table<1024>,
-    earlier: List<512>,
 }
 
 impl<const PAIRS: bool> Pass<'_, PAIRS> {
@@ -168,7 +147,6 @@ impl<const PAIRS: bool> Pass<'_, PAIRS> {
         let (volume, serial) = (self.byte(VOLUME, object), self.link(SERIAL, object));
         let size = self.link(SIZE, object);
         let master = self.link(MASTER, object);
-        self.earlier.count = 0;
         volume < VOLUMES
             && self.names.insert(u64::from(volume) << 16 | serial as u64)
             && size <= MAX_SIZE as usize
@@ -244,12 +222,25 @@ impl<const PAIRS: bool> Pass<'_, PAIRS> {
     }
 
     fn p1_is_new(&mut self, owner: usize, at: usize) -> bool {
-        let p1 = self.word(P1, at);
-        if PAIRS {
-            self.earlier.insert(p1)
-        } else {
-            self.passwords.insert((owner as u64) << 32 | u64::from(p1))
+        PAIRS || self.passwords.insert((owner as u64) << 32 | u64::from(self.word(P1, at)))
+    }
+
+    /// No two capabilities of an object have the same p1: each slot is compared with those after it.
+    fn p1_differ(&self) -> bool {
+        let last = Record::Capability.slots();
+        for at in 1..last {
+            let owner = self.link(OWNER, at);
+            if owner == 0 {
+                continue;
+            }
+            let p1 = self.word(P1, at);
+            for other in at + 1..last {
+                if self.word(P1, other) == p1 && self.link(OWNER, other) == owner {
+                    return false;
+                }
+            }
         }
+        true
     }
 
     /// A capability's own ranges, and that it lies in its parent, if it has one.

@@ -31,19 +31,10 @@ pub fn free_marked(links: &[u16], off: usize, n: usize, seen: &[u8]) -> bool
     while 0 < i {
         let mark = seen[i];
         let cell = links[off + i];
-        if mark == 0 {
-            if cell == 0 {
-                return false;
-            } else {
-                i -= 1;
-            }
-        } else {
-            if cell == 0 {
-                i -= 1;
-            } else {
-                return false;
-            }
+        if (mark == 0) == (cell == 0) {
+            return false;
         }
+        i -= 1;
     }
     true
 }

@@ -24,7 +24,7 @@ kept seen at j h before z = go (ℕ-discrete j at)
     go (yes e) = omega (arith, getD-set-same seen at 1 0 h, rw e at z)
     go (no ne) = before ne (sym (getD-set-other seen at j 1 0 ne) ∙ z)
 
-pub no-slot : (l w seen : List ℕ) → length seen ≡ 8192 → Table l w seen 512
+pub no-slot : (l w seen : List ℕ) → length seen ≡ 16384 → Table l w seen 512
 no-slot l w seen e = record { size = e; marked = used-past 512 Layout.OWNER l _ }
 
 module _ (l w seen : List ℕ) (i : ℕ) (t : Table l w seen i) where
@@ -32,7 +32,7 @@ module _ (l w seen : List ℕ) (i : ℕ) (t : Table l w seen i) where
   pub no-mark : Marked l w seen i → Table l w seen (i - 1)
   no-mark here = record { size = t .size; marked = above-more (Marked l w seen) i here (t .marked) }
 
-  module _ (at : ℕ) (e : at ≡ bucket (ownerOf l i) (p1Of w i)) (h : at < 8192) where
+  module _ (at : ℕ) (e : at ≡ bucket (ownerOf l i) (p1Of w i)) (h : at < 16384) where
     -- slot i gets its mark
     pub one-mark : Table l w (set seen at 1) (i - 1)
     one-mark = record {

@@ -5,3 +5,5 @@ pub mod Unique
 pub mod Adding
 pub mod Living
 pub mod Entering
+pub mod Listing
+pub mod Scanning

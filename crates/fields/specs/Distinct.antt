@@ -26,14 +26,14 @@ pub record SamePassword (l w : List ℕ) (i j : ℕ) : Type 0 where
 abbrev pub NoneAbove : (ℕ → ℕ → Type 0) → ℕ → Type 0
 NoneAbove same i = (j : ℕ) → i < j → same i j → ⊥
 
--- the place in the table of an object and a p1. 8191 is 2^13 - 1, so all the bits of p1 count; 5063 is 8192 divided by
--- the golden ratio, so that the places of p1 that follow each other in different objects stay apart
+-- the place in the table of an object and a p1. 16383 is 2^14 - 1, so all the bits of p1 count; 10127 is 16384 divided
+-- by the golden ratio, so that the places of p1 that follow each other in different objects stay apart
 unfoldable pub bucket : ℕ → ℕ → ℕ
-bucket owner p1 = (p1 % 8191 + owner * 5063) % 8192
+bucket owner p1 = (p1 % 16383 + owner * 10127) % 16384
 
 -- each living capability above slot i has its place marked
 pub record Table (l w seen : List ℕ) (i : ℕ) : Type 0 where
-  pub size : length seen ≡ 8192
+  pub size : length seen ≡ 16384
   pub marked : (j : ℕ) → i < j → ownerOf l j ≢ 0 → getD seen (bucket (ownerOf l j) (p1Of w j)) 0 ≢ 0
 
 -- slot i was looked at, and the table holds it too

@@ -2,3 +2,5 @@
 pub mod Parts
 pub mod Distinct
 pub mod Amount
+pub mod Scanned
+pub mod Slots

@@ -2,7 +2,6 @@
 ghost use mathlib.Core.Path.{_≡_};
 ghost use lib.ListN.{length};
 ghost use Rattle.layout.specs.Layout;
-ghost use Rattle.layout.specs.Fields.{CapsFit};
 ghost use Rattle.layout.specs.Decides.{Decides};
 ghost use Rattle.fields.specs.Parts.{LinksWords, CapMeets, Whole, Within};
 use crate::rows::CAP_SLOTS;
@@ -46,7 +45,7 @@ fn is_within(links: &[u16], words: &[u32], i: usize, p: usize) -> bool
 }
 
 // The fields of slot i, if it holds a capability.
-fn cap_fits(links: &[u16], words: &[u32], i: usize) -> bool
+pub fn cap_fits(links: &[u16], words: &[u32], i: usize) -> bool
     requires { ⌜ LinksWords (now links) (now words) ⌝ }
     ensures { λ r. ⌜ Decides (CapMeets (now (links .entry)) (now (words .entry)) i) r ⌝ }
 {
@@ -67,19 +66,4 @@ fn cap_fits(links: &[u16], words: &[u32], i: usize) -> bool
         return is_whole(links, owner, start, end);
     }
     is_within(links, words, i, parent)
-}
-
-pub fn caps_fit(links: &[u16], words: &[u32]) -> bool
-    requires { ⌜ LinksWords (now links) (now words) ⌝ }
-    ensures { λ r. ⌜ Decides (CapsFit (now (links .entry)) (now (words .entry))) r ⌝ }
-{
-    let mut i: usize = CAP_SLOTS;
-    while 0 < i {
-        if cap_fits(links, words, i) {
-            i -= 1;
-        } else {
-            return false;
-        }
-    }
-    true
 }

@@ -2,11 +2,10 @@
 ghost use Rattle.layout.specs.WellFormed.{Sized};
 ghost use Rattle.layout.specs.Fields.{Fields};
 ghost use Rattle.layout.specs.Decides.{Decides};
-use crate::caps::caps_fit;
 use crate::money::total_fits;
 use crate::names::names_unique;
 use crate::objects::objects_fit;
-use crate::passwords::passwords_unique;
+use crate::scan::scan_caps;
 
 pub mod caps;
 pub mod money;
@@ -14,6 +13,7 @@ pub mod names;
 pub mod objects;
 pub mod passwords;
 mod rows;
+pub mod scan;
 
 // All of it.
 pub fn check_fields(bytes: &[u8], links: &[u16], words: &[u32]) -> bool
@@ -26,11 +26,9 @@ pub fn check_fields(bytes: &[u8], links: &[u16], words: &[u32]) -> bool
     if !names_unique(bytes, links) {
         return false;
     }
-    if !caps_fit(links, words) {
+    let caps = scan_caps(links, words);
+    if !caps.fits {
         return false;
     }
-    if !passwords_unique(links, words) {
-        return false;
-    }
-    total_fits(bytes, links, words)
+    total_fits(bytes, links, words, caps.masters)
 }

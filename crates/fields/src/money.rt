@@ -63,7 +63,7 @@ fn all_cash(bytes: &[u8], links: &[u16], words: &[u32]) -> u64
 }
 
 // The moneyword of slot i, 0 if it holds no master.
-fn money_at(links: &[u16], words: &[u32], i: usize) -> u32
+pub fn money_at(links: &[u16], words: &[u32], i: usize) -> u32
     requires { ⌜ LinksWords (now links) (now words) ⌝ }
     ensures { λ r. ⌜ ((b : List ℕ) → r ≡ masterMoney (view b (now (links .entry)) (now (words .entry))) i) ⌝ }
 {
@@ -74,19 +74,6 @@ fn money_at(links: &[u16], words: &[u32], i: usize) -> u32
         return 0;
     }
     word(words, CAP_SLOTS, MONEY, i)
-}
-
-fn all_masters(bytes: &[u8], links: &[u16], words: &[u32]) -> u64
-    requires { ⌜ Sized (now bytes) (now links) (now words) ⌝ }
-    ensures { λ r. ⌜ MastersAre (now (bytes .entry)) (now (links .entry)) (now (words .entry)) r ⌝ }
-{
-    let mut total: u64 = 0;
-    let mut i: usize = CAP_SLOTS;
-    while 0 < i {
-        total += money_at(links, words, i) as u64;
-        i -= 1;
-    }
-    total
 }
 
 // The sums of n messages from slot i on.
@@ -129,12 +116,13 @@ fn all_boxes(bytes: &[u8], links: &[u16], words: &[u32]) -> u64
     total
 }
 
-pub fn total_fits(bytes: &[u8], links: &[u16], words: &[u32]) -> bool
-    requires { ⌜ Sized (now bytes) (now links) (now words) ⌝ }
+// The masters' part is given.
+pub fn total_fits(bytes: &[u8], links: &[u16], words: &[u32], masters: u64) -> bool
+    requires { ⌜ Sized (now bytes) (now links) (now words) ⌝
+        ∗ ⌜ MastersAre (now bytes) (now links) (now words) masters ⌝ }
     ensures { λ r. ⌜ Decides (TotalFits (now (bytes .entry)) (now (links .entry)) (now (words .entry))) r ⌝ }
 {
     let cash = all_cash(bytes, links, words);
-    let masters = all_masters(bytes, links, words);
     let boxes = all_boxes(bytes, links, words);
     let house = words[HOUSE] as u64;
     cash + masters + boxes + house <= 4294967295

@@ -2,8 +2,6 @@
 // place is not marked is like no slot passed before it, and only one whose place is marked is compared with them all.
 ghost use mathlib.Core.Path.{_≡_};
 ghost use Prim.Native.Nat.{_<_};
-ghost use lib.ListN.{length};
-ghost use Rattle.layout.specs.Fields.{PasswordsUnique};
 ghost use Rattle.layout.specs.Decides.{Decides};
 ghost use Rattle.fields.specs.Parts.{LinksWords};
 ghost use Rattle.fields.specs.Distinct.{SamePassword, NoneAbove, bucket, Table, Entered};
@@ -15,9 +13,9 @@ use layout::P1;
 
 // The place in the table of an object and a p1.
 fn bucket_of(owner: u16, p1: u32) -> usize
-    ensures { λ r. ⌜ (r ≡ bucket owner p1) × (r < 8192) ⌝ }
+    ensures { λ r. ⌜ (r ≡ bucket owner p1) × (r < 16384) ⌝ }
 {
-    (p1 as usize % 8191 + owner as usize * 5063) % 8192
+    (p1 as usize % 16383 + owner as usize * 10127) % 16384
 }
 
 // Slots i and j hold capabilities of the same object with the same p1.
@@ -51,7 +49,7 @@ fn password_is_new(links: &[u16], words: &[u32], i: usize) -> bool
 }
 
 // The same, by the table of the slots above i, which gets slot i too.
-fn enter(links: &[u16], words: &[u32], seen: &mut [u8], i: usize) -> bool
+pub fn enter(links: &[u16], words: &[u32], seen: &mut [u8], i: usize) -> bool
     requires { ⌜ LinksWords (now links) (now words) ⌝ ∗ ⌜ Table (now links) (now words) (now seen) i ⌝ }
     ensures { λ r. ⌜ Entered (now (links .entry)) (now (words .entry)) (now (seen .exit)) i r ⌝ }
 {
@@ -66,28 +64,4 @@ fn enter(links: &[u16], words: &[u32], seen: &mut [u8], i: usize) -> bool
         return true;
     }
     password_is_new(links, words, i)
-}
-
-// The same of every slot, from the last down, with a table of no slot yet.
-fn enter_all(links: &[u16], words: &[u32], seen: &mut [u8]) -> bool
-    requires { ⌜ LinksWords (now links) (now words) ⌝ ∗ ⌜ length (now seen) ≡ 8192 ⌝ }
-    ensures { λ r. ⌜ Decides (PasswordsUnique (now (links .entry)) (now (words .entry))) r ⌝ }
-{
-    let mut i: usize = CAP_SLOTS;
-    while 0 < i {
-        if enter(links, words, seen, i) {
-            i -= 1;
-        } else {
-            return false;
-        }
-    }
-    true
-}
-
-pub fn passwords_unique(links: &[u16], words: &[u32]) -> bool
-    requires { ⌜ LinksWords (now links) (now words) ⌝ }
-    ensures { λ r. ⌜ Decides (PasswordsUnique (now (links .entry)) (now (words .entry))) r ⌝ }
-{
-    let mut seen = [0u8; 8192];
-    enter_all(links, words, &mut seen)
 }

@@ -79,15 +79,15 @@ fn main() {
 }
 
 fn print_table(cases: &[Case], medians: &[[f64; 3]]) {
-    println!("medians of {ROUNDS} rounds in microseconds, and ratios; pairs: p1 compared in pairs");
-    let titles = ["Rattle", "Rust", "Rattle/Rust", "pairs", "pairs/Rust", "full/half", "in Rust"];
-    println!("{:36}{}", "store", titles.map(|title| format!("{title:>12}")).concat());
+    println!("medians of {ROUNDS} rounds in microseconds, and ratios; pairs: p1 compared in pairs of slots");
+    let titles = ["Rattle", "Rust", "Rattle/Rust", "pairs", "pairs/Rattle", "full/half", "in Rust"];
+    println!("{:36}{}", "store", titles.map(|title| format!("{title:>13}")).concat());
     for (case, [rattle, rust, pairs]) in cases.iter().zip(medians) {
-        print!("{:36}{:>12.2}{:>12.2}", case.name, rattle / 1e3, rust / 1e3);
-        print!("{:>12.2}{:>12.2}{:>12.2}", rattle / rust, pairs / 1e3, pairs / rust);
+        print!("{:36}{:>13.2}{:>13.2}", case.name, rattle / 1e3, rust / 1e3);
+        print!("{:>13.2}{:>13.2}{:>13.2}", rattle / rust, pairs / 1e3, pairs / rattle);
         if let Some(half) = case.half {
             let [half_rattle, half_rust, _] = medians[half];
-            print!("{:>12.2}{:>12.2}", rattle / half_rattle, rust / half_rust);
+            print!("{:>13.2}{:>13.2}", rattle / half_rattle, rust / half_rust);
         }
         println!();
     }

@@ -8,9 +8,6 @@ use Rattle.fields.proofs.money.total_fits.Tie as tie
 all-cash-requires : tie.Need-all-cash-requires
 all-cash-requires c κs = search needs
 
-all-masters-requires : tie.Need-all-masters-requires
-all-masters-requires c κs = search needs
-
 all-boxes-requires : tie.Need-all-boxes-requires
 all-boxes-requires c κs = search needs
 
@@ -30,8 +27,8 @@ add-result-3 : tie.Need-add-result-3
 add-result-3 c = omega (arith, c .shared-slice-known4 .given 0)
 
 returns : tie.Need-returns
-returns c = let a = c .before .before .before .all-cash .ensures in
-    let m = c .before .before .all-masters .ensures in
+returns c = let a = c .before .before .all-cash .ensures in
+    let m = c .before .before .before .before .before .before .pre .1 in
     total-decided _ _ _ _ _ _ (a .is) (m .is) (c .before .all-boxes .ensures .is)
 
 pub total-fits-spec : {M : Type 1} → statement M
@@ -39,7 +36,6 @@ total-fits-spec =
     tie.close
     (tie.spec
     all-cash-requires
-    all-masters-requires
     all-boxes-requires
     shared-slice-read-house
     cast-house

@@ -1,0 +1,89 @@
+// One pass over the capabilities: the fields of each, its p1 in the table of marks, and the masters' part of the total.
+// It goes by a list of the living slots, made first without a branch on what lives: where living and free slots are
+// mixed, the processor foretells such a branch wrongly half of the time.
+ghost use mathlib.Core.Path.{_≡_};
+ghost use Prim.Native.Nat.{_≤_};
+ghost use lib.ListN.{length};
+ghost use Rattle.fields.specs.Parts.{LinksWords};
+ghost use Rattle.layout.specs.Layout;
+ghost use Rattle.fields.specs.Scanned.{Scanned};
+ghost use Rattle.fields.specs.Slots.{Slots, NextPlace};
+use crate::caps::cap_fits;
+use crate::money::money_at;
+use crate::passwords::enter;
+use crate::rows::CAP_SLOTS;
+use crate::rows::link;
+use layout::OWNER;
+
+// Whether all capabilities fit and no two of an object have the same p1; if so, the moneywords of the masters.
+pub struct Scan {
+    pub fits: bool,
+    pub masters: u64,
+}
+
+// The next free place of the list, after slot i was written at place n.
+fn next_place(links: &[u16], i: usize, n: usize) -> usize
+    requires { ⌜ length (now links) ≡ Layout.LINKS ⌝ ∗ ⌜ n ≤ 512 ⌝ }
+    ensures { λ r. ⌜ NextPlace (now (links .entry)) i n r ⌝ }
+{
+    if link(links, CAP_SLOTS, OWNER, i) == 0 {
+        return n;
+    }
+    n + 1
+}
+
+// Lists the living slots from the last down, and says how many.
+fn list_living(links: &[u16], list: &mut [u16]) -> usize
+    requires { ⌜ length (now links) ≡ Layout.LINKS ⌝ ∗ ⌜ length (now list) ≡ 513 ⌝ }
+    ensures { λ r. ⌜ Slots (now (links .entry)) (now (list .exit)) 0 r 0 512 ⌝ }
+{
+    let mut n: usize = 0;
+    let mut i: usize = CAP_SLOTS;
+    while 0 < i {
+        list[n] = i as u16;
+        n = next_place(links, i, n);
+        i -= 1;
+    }
+    n
+}
+
+// The pass over the n slots of the list, with a table of no slot yet.
+fn scan_all(links: &[u16], words: &[u32], seen: &mut [u8], list: &[u16], n: usize) -> Scan
+    requires { ⌜ LinksWords (now links) (now words) ⌝ ∗ ⌜ length (now seen) ≡ 16384 ⌝
+        ∗ ⌜ Slots (now links) (now list) 0 n 0 512 ⌝ }
+    ensures { λ r. ⌜ Scanned (now (links .entry)) (now (words .entry)) (r .fits) (r .masters) ⌝ }
+{
+    let mut total: u64 = 0;
+    let mut k: usize = 0;
+    while k < n {
+        let i = list[k] as usize;
+        if !cap_fits(links, words, i) {
+            return Scan {
+                fits: false,
+                masters: 0,
+            };
+        }
+        if !enter(links, words, seen, i) {
+            return Scan {
+                fits: false,
+                masters: 0,
+            };
+        }
+        total += money_at(links, words, i) as u64;
+        k += 1;
+    }
+    Scan {
+        fits: true,
+        masters: total,
+    }
+}
+
+pub fn scan_caps(links: &[u16], words: &[u32]) -> Scan
+    requires { ⌜ LinksWords (now links) (now words) ⌝ }
+    ensures { λ r. ⌜ Scanned (now (links .entry)) (now (words .entry)) (r .fits) (r .masters) ⌝ }
+{
+    let mut list = [0u16; 513];
+    let n = list_living(links, &mut list);
+    let mut seen = [0u8; 16384];
+    scan_all(links, words, &mut seen, &list, n)
+}
