@@ -8,6 +8,8 @@ pub mod Shown
 pub mod Frame
 pub mod Kept
 pub mod Lengths
+-- where links change
+pub mod Linking
 -- the check
 pub mod Shaped
 pub mod Room
