@@ -3,11 +3,12 @@ use mathlib.Core.Path.{_≡_, refl}
 use mathlib.Core.Logic.{_≢_}
 use mathlib.Core.Bool.{Bool, true, false, false≢true}
 use mathlib.Core.List.{List, [], _∷_}
-use Prim.Native.Nat.{ℕ, zero, suc, _+_, _≤_}
+use Prim.Native.Nat.{ℕ, _+_, _≤_}
 use native.Mathlib.Omega.{arith}
 use lib.ListN.{getD, replicate, length-replicate}
 use Rattle.layout.specs.Shape.{Chain, times}
 use Rattle.layout.proofs.Field.{within}
+use Rattle.layout.proofs.Zeros.{zeros}
 use Rattle.rules.proofs.Slots.{sum-zero}
 use Rattle.layout.proofs.Counts.{one-other}
 use Rattle.layout.specs.Decides.{Decides}
@@ -16,11 +17,6 @@ use Rattle.chains.specs.Parts.{chainWith, each}
 use Rattle.chains.proofs.Marking.{Made, marking-then, marking-broken}
 
 -- no record is visited at first
-zeros : (m k : ℕ) → _≡_ {A = ℕ} (getD (replicate m 0) k 0) 0
-zeros zero k = refl
-zeros (suc m) zero = refl
-zeros (suc m) (suc k) = zeros m k
-
 pub blank : (n : ℕ) → Blank n (replicate (n + 1) 0)
 blank n = record { size = length-replicate (n + 1) 0; clear = zeros (n + 1) }
 

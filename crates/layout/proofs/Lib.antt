@@ -3,6 +3,9 @@
 pub mod Counts
 pub mod Field
 pub mod Puts
+pub mod Heads
+pub mod Zeros
+pub mod Zeroing
 -- what the rows mean
 pub mod Shown
 pub mod Frame
@@ -10,9 +13,13 @@ pub mod Kept
 pub mod Lengths
 -- where links change
 pub mod Linking
+pub mod Joining
 -- the check
 pub mod Shaped
+pub mod Standing
+pub mod FreeCaps
 pub mod Room
+pub mod Free
 pub mod Formed
 pub mod Asked
 -- answers that are right both ways

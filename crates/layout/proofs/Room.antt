@@ -18,30 +18,30 @@ use Rattle.layout.proofs.Shown.{object-here, object-none}
 
 -- ---- sums
 
-sum-zeros : (n : ℕ) → sumOver n (λ i. 0) ≡ 0
+pub sum-zeros : (n : ℕ) → sumOver n (λ i. 0) ≡ 0
 sum-zeros n = sum-zero n (λ i. 0) (λ i _ _. refl)
 
-sum-add : (n : ℕ) (f g : ℕ → ℕ) → sumOver n (λ i. f i + g i) ≡ sumOver n f + sumOver n g
+pub sum-add : (n : ℕ) (f g : ℕ → ℕ) → sumOver n (λ i. f i + g i) ≡ sumOver n f + sumOver n g
 unfolding sumOver
 sum-add zero f g = refl
 sum-add (suc n) f g = omega (arith, sum-add n f g)
 
 -- the order of two sums does not matter
-sum-swap : (n m : ℕ) (f : ℕ → ℕ → ℕ)
+pub sum-swap : (n m : ℕ) (f : ℕ → ℕ → ℕ)
     → sumOver n (λ i. sumOver m (λ j. f i j)) ≡ sumOver m (λ j. sumOver n (λ i. f i j))
 unfolding sumOver
 sum-swap zero m f = sym (sum-zeros m)
 sum-swap (suc n) m f =
     omega (arith, sum-swap n m f, sum-add m (λ j. f (suc n) j) (λ j. sumOver n (λ i. f i j)))
 
-sum-ones : (n : ℕ) (f : ℕ → ℕ) → ((i : ℕ) → 1 ≤ i → i ≤ n → f i ≤ 1) → sumOver n f ≤ n
+pub sum-ones : (n : ℕ) (f : ℕ → ℕ) → ((i : ℕ) → 1 ≤ i → i ≤ n → f i ≤ 1) → sumOver n f ≤ n
 unfolding sumOver
 sum-ones zero f h = omega arith
 sum-ones (suc n) f h =
     omega (arith, h (suc n) (omega arith) (omega arith), sum-ones n f (λ i p q. h i p (omega arith)))
 
 -- j is one of 1 to n, once
-sum-once : (n j : ℕ) → 1 ≤ j → j ≤ n → sumOver n (λ k. one (eqb k j)) ≡ 1
+pub sum-once : (n j : ℕ) → 1 ≤ j → j ≤ n → sumOver n (λ k. one (eqb k j)) ≡ 1
 unfolding sumOver
 sum-once zero j p q = absurd (omega arith)
 sum-once (suc n) j p q = go (ℕ-discrete (suc n) j) (sum-once n j p)
@@ -58,7 +58,7 @@ sum-once (suc n) j p q = go (ℕ-discrete (suc n) j) (sum-once n j p)
 -- ---- chains
 
 -- a chain is as long as all its records count
-chain-length : (n : ℕ) (next : ℕ → ℕ) (head : ℕ) (xs : List ℕ) → Chain n next head xs
+pub chain-length : (n : ℕ) (next : ℕ → ℕ) (head : ℕ) (xs : List ℕ) → Chain n next head xs
     → sumOver n (λ k. times k xs) ≡ length xs
 unfolding Chain times
 chain-length n next head [] c = sum-zeros n
@@ -83,7 +83,7 @@ module _ (b l w : List ℕ) (s : Blocks l) where
           rw (object-here b l w o alive) (sym (chain-length 512 (nextBlockOf l) (firstBlockOf l o) (s .chain o) (c .0)
           ∙ c .1))
 
-  all : sumOver 64 (λ o. blocks (view b l w .object o .size))
+  pub all : sumOver 64 (λ o. blocks (view b l w .object o .size))
       ≡ sumOver 512 (λ k. sumOver 64 (λ o. times k (s .chain o)))
   all = sum-same 64 (λ o. blocks (view b l w .object o .size)) (λ o. sumOver 512 (λ k. times k (s .chain o))) need
       ∙ sum-swap 64 512 (λ o k. times k (s .chain o))

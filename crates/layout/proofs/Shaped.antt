@@ -119,7 +119,7 @@ module _ (l : List ℕ) (o : ℕ) where
 
 module _ (l : List ℕ) (c : Caps l) where
   -- a record of an object's tree is a living capability of it
-  of-tree : (k o : ℕ) → 1 ≤ o → o ≤ 64 → 1 ≤ count k (c .tree o) → CapShaped l o k
+  pub of-tree : (k o : ℕ) → 1 ≤ o → o ≤ 64 → 1 ≤ count k (c .tree o) → CapShaped l o k
   unfolding count
   of-tree k o low high n = go (ℕ-discrete (masterOf l o) 0)
     where

@@ -3,10 +3,10 @@ use mathlib.Core.Path.{_≡_, refl, ap, sym, _∙_}
 use mathlib.Core.Logic.{_≢_}
 use mathlib.Core.Bool.{Bool, true, false}
 use mathlib.Core.List.{List}
-use Prim.Native.Nat.{ℕ, _+_, _≤_}
+use Prim.Native.Nat.{ℕ, _+_, _≤_, _<_}
 use native.Mathlib.Omega.{arith}
 use lib.Dec.{eqb}
-use lib.ListN.{getD, set}
+use lib.ListN.{getD, set, length}
 use borrow.Author.Tests.{eq-eqb, eqb-true}
 use Rattle.rules.specs.Slots.{one}
 use Rattle.layout.specs.Layout as Layout
@@ -15,7 +15,9 @@ use Rattle.layout.specs.Shape.{Forest, nil, node, count, Sound, SoundIn}
 use Rattle.layout.proofs.Field.{field-in}
 use Rattle.chains.specs.Marking.{Marks, Part, Marking}
 use Rattle.chains.proofs.Marking.{Made, single, marking-then, marking-broken, marking-nothing}
-use Rattle.chains.proofs.Marking.{marking-one, marking-refused}
+use Rattle.chains.proofs.Marking.{marking-one, marking-refused, marking-falls, unvisited}
+use Rattle.chains.proofs.Marking.{Going, going-start, going-on, going-broken}
+use Rattle.layout.proofs.Counts.{one-same}
 use Rattle.trees.specs.Parts.{AgreeIn, recordAt, childrenFrom, treeAt}
 
 -- ---- a record, and a chain of children
@@ -30,7 +32,7 @@ module _ (l : List ℕ) (o parent prev : ℕ) where
   }
 
   -- a chain of children is the first with its children and the chain from its next on
-  pub children-made : (head : ℕ) → head ≢ 0 → Made (childrenFrom l o parent prev head) (recordAt l o parent prev head)
+  children-made : (head : ℕ) → head ≢ 0 → Made (childrenFrom l o parent prev head) (recordAt l o parent prev head)
       (childrenFrom l o parent head (nextCapOf l head))
   unfolding Sound count
   children-made head ne = record {
@@ -67,14 +69,41 @@ module _ (l : List ℕ) (o parent prev : ℕ) where
   record-step j a m z h = marking-then (record-made j) (marking-one m (a .high) z a)
       (rw (field-in 512 Layout.«FIRST_CHILD» l j (a .low) (a .high)) h)
 
-  -- the first is sound, and then the others are or not
-  pub children-step : (head : ℕ) {s v u : List ℕ} {r : Bool} → head ≢ 0
-      → Marking (recordAt l o parent prev head) s v true
-      → Marking (childrenFrom l o parent head (getD l (Layout.«NEXT_CAP» + head) 0)) v u r
-      → Marking (childrenFrom l o parent prev head) s u r
-  children-step head ne g h =
-      let a = g .sound refl .1 .0 in
-      marking-then (children-made head ne) g (rw (field-in 512 Layout.«NEXT_CAP» l head (a .low) (a .high)) h)
+-- ---- a loop along a chain of children
+
+-- what is found of the chain from j on, after `back`, is found of the chain from head on, and no record has lost its mark
+pub record Along (l : List ℕ) (o parent prev head : ℕ) (start seen : List ℕ) (j back : ℕ) : Type 0 where
+  pub going : Going 512 (childrenFrom l o parent back j) seen (childrenFrom l o parent prev head) start
+  pub fewer : unvisited seen ≤ unvisited start
+
+pub along-start : (l : List ℕ) (o parent prev head : ℕ) (start : List ℕ) → Marks 512 start
+    → Along l o parent prev head start start head prev
+along-start l o parent prev head start m = record { going = going-start m; fewer = omega arith }
+
+module _ {l : List ℕ} {o parent prev head : ℕ} {start seen : List ℕ} {j back : ℕ}
+    (now : Along l o parent prev head start seen j back) where
+  module _ {v : List ℕ} (same : length v ≡ length seen) (found : Marking (recordAt l o parent back j) seen v true) where
+    -- the record at j was not visited before
+    pub along-falls : unvisited v < unvisited seen
+    along-falls = marking-falls j same
+        (omega (arith, now .going .marks .size, found .sound refl .1 .0 .high)) found
+        (λ F h. omega (arith, one-same j))
+
+    pub along-on : j ≢ 0 → Along l o parent prev head start v (getD l (Layout.«NEXT_CAP» + j) 0) j
+    along-on ne =
+        let a = found .sound refl .1 .0 in
+        record {
+          going = rw (← field-in 512 Layout.«NEXT_CAP» l j (a .low) (a .high))
+              (going-on (now .going) (children-made l o parent back j ne) same found);
+          fewer = omega (arith, along-falls, now .fewer);
+        }
+
+  pub along-broken : {v u : List ℕ} → j ≢ 0 → Marking (recordAt l o parent back j) seen v false
+      → Marking (childrenFrom l o parent prev head) start u false
+  along-broken ne h = going-broken (now .going) (children-made l o parent back j ne) h
+
+  pub along-end : j ≡ 0 → Marking (childrenFrom l o parent prev head) start seen true
+  along-end z = now .going .leads seen true (children-end l o parent back j (now .going .marks) z)
 
 -- ---- the tree of one object: its master, and no sibling after it
 

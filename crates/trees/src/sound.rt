@@ -74,15 +74,17 @@ pub fn check_chain(
     ensures { λ r. ⌜ Marking (childrenFrom (now (links .entry)) o parent prev head)
         (now (seen .entry)) (now (seen .exit)) r ⌝ }
 {
-    if head == 0 {
-        return true;
+    let mut j = head;
+    let mut back = prev;
+    while 0 < j {
+        let ok = check_record(links, seen, o, j, parent, back);
+        if ok {
+            let i = j as usize;
+            back = j;
+            j = links[NEXT_CAP + i];
+        } else {
+            return false;
+        }
     }
-    let ok = check_record(links, seen, o, head, parent, prev);
-    if ok {
-        let i = head as usize;
-        let next = links[NEXT_CAP + i];
-        check_chain(links, seen, o, next, parent, head)
-    } else {
-        false
-    }
+    true
 }

@@ -1,11 +1,13 @@
 // 01, "A store is well formed when": the check of three slices of any length and content.
 ghost use Rattle.layout.specs.WellFormed.{WellFormed};
 ghost use Rattle.layout.specs.Decides.{Decides};
-use fields::check_fields;
+use crate::fields::check_fields;
 use layout::BYTES;
 use layout::LINKS;
 use layout::WORDS;
 use trees::shape::check_shape;
+
+pub mod fields;
 
 // True exactly when the store is well formed. Nothing is written.
 pub fn check(bytes: &[u8], links: &[u16], words: &[u32]) -> bool

@@ -1,17 +1,19 @@
--- `free_marked` meets its contract: of the records above k, just the free ones are marked.
-use mathlib.Core.Path.{_≡_, sym, ap₂, _∙_}
+-- `free_marked` meets its contract: its answer says whether of the records above i, just the free ones are marked.
+use mathlib.Core.Path.{_≡_, sym, ap, ap₂, _∙_}
 use mathlib.Core.Logic.{_≢_}
-use mathlib.Core.Bool.{false, Bool·beq, false≢true}
+use mathlib.Core.Bool.{Bool, true, false, not, Bool·beq, false≢true}
+use mathlib.Core.List.{List}
 use Prim.Native.Nat.{ℕ, _+_}
 use native.Mathlib.Decide.{ℕ-discrete}
 use lib.Dec.{eqb}
-use borrow.Author.Tests.{eq-eqb, ne-eqb}
+use borrow.Author.Tests.{eq-eqb, ne-eqb, not-true}
 use native.Mathlib.Omega.{arith}
 use lib.ListN.{getD}
 use Rattle.layout.specs.Rows.{field}
+use Rattle.layout.specs.Decides.{Decides}
 use Rattle.layout.proofs.Field.{field-in}
 use Rattle.chains.specs.Marking.{FreeAt}
-use Rattle.chains.proofs.Down.{Above, above-start, above-on, above-end, above-broken}
+use Rattle.chains.proofs.Down.{Down, down-start, down-on, down-end}
 use Rattle.chains.proofs.marks.free_marked.Statement.{statement}
 use Rattle.chains.proofs.marks.free_marked.Tie as tie
 
@@ -34,42 +36,38 @@ module _ (x y : ℕ) (e : Bool·beq (eqb x 0) (eqb y 0) ≡ false) where
       go (yes z) = z
       go (no m) = absurd (false≢true (sym e ∙ ap₂ Bool·beq (ne-eqb x 0 n) (ne-eqb y 0 m)))
 
+free-decided : (f : ℕ → ℕ) (seen : List ℕ) (k y : ℕ) → f k ≡ y
+    → Decides (FreeAt f seen k) (not (Bool·beq (eqb (getD seen k 0) 0) (eqb y 0)))
+free-decided f seen k y e = record {
+  sound = λ t. let u = not-true _ t in record {
+    free = λ n. e ∙ then-zero (getD seen k 0) y u n;
+    live = λ z h. then-not (getD seen k 0) y u z (sym e ∙ h);
+  };
+  complete = λ h. ap not (unlike (getD seen k 0) y (λ z g. h .live z (e ∙ g)) (λ n. sym e ∙ h .free n));
+}
+
 abbrev Inv-loop : tie.InvT-loop
-Inv-loop links off n seen i₀ i = Above n i (FreeAt (field n off links) seen)
+Inv-loop links off n seen ok₀ i₀ ok i = Down n i (FreeAt (field n off links) seen) ok
 
 abbrev μ-loop : tie.MeasureT-loop
-μ-loop links off n seen i₀ i = i
+μ-loop links off n seen ok₀ i₀ ok i = i
 
 loop-holds : tie.Need-loop-holds Inv-loop μ-loop
-loop-holds c = above-start _ _
-
--- the cell of k
-abbrev Here : Type 0
-Here = tie.In-loop Inv-loop μ-loop
-
-cell-is : (c : Here) → field (c .before .before .args .n) (c .before .before .args .off)
-    (c .before .before .args .links .now) (c .before .loop .i)
-    ≡ getD (c .before .before .args .links .now) (c .before .before .args .off + c .before .loop .i) 0
-cell-is c = field-in _ _ _ _ (c .loop-test .taken) (c .before .loop .inv .high)
-
--- both are 0, or neither is
-returns : tie.Need-returns Inv-loop μ-loop
-returns c = let here = c .before .before .before in
-    above-broken (here .before .loop .inv) (here .loop-test .taken)
-    (λ f. false≢true (sym (unlike _ _ (λ z e. f .live z (cell-is here ∙ e)) (λ n. sym (cell-is here) ∙ f .free n))
-    ∙ c .if1 .taken))
+loop-holds c = down-start _ _
 
 loop-again : tie.Need-loop-again Inv-loop μ-loop
-loop-again c = let here = c .before .before .before in
-    above-on (here .before .loop .inv) (here .loop-test .taken) (record {
-      free = λ n. cell-is here ∙ then-zero _ _ (c .if1 .left) n;
-      live = λ z e. then-not _ _ (c .if1 .left) z (sym (cell-is here) ∙ e);
-    })
+loop-again c =
+    let here = c .before .before .before in
+    let now = here .before .loop .inv in
+    down-on now (here .loop-test .taken)
+    (free-decided _ _ _ _ (field-in _ _ _ _ (here .loop-test .taken) (now .high))) (c .both .ensures)
 
-returns-2 : tie.Need-returns-2 Inv-loop μ-loop
-returns-2 c = above-end (c .before .loop .inv) (omega arith)
+returns : tie.Need-returns Inv-loop μ-loop
+returns c = down-end (c .before .loop .inv) (omega arith)
 
 pub free-marked-spec : {M : Type 1} → statement M
-free-marked-spec = tie.close (tie.spec Inv-loop μ-loop loop-holds
-    (λ c. omega arith) (λ c. omega arith) (λ c. omega arith) (λ c. omega arith) returns
-    (λ c. omega arith) (λ c. omega arith) loop-again returns-2)
+free-marked-spec =
+    tie.close
+    (tie.spec Inv-loop μ-loop loop-holds
+    (λ c. omega arith) (λ c. omega arith) (λ c. omega arith) (λ c. omega arith)
+    (λ c κs. tt) (λ c. omega arith) (λ c. omega arith) loop-again returns)

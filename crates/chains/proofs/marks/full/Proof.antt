@@ -1,33 +1,51 @@
--- `full` meets its contract: the records above k are marked.
+-- `full` meets its contract: its answer says whether the records above k are marked.
 use mathlib.Core.Logic.{_≢_}
 use native.Mathlib.Omega.{arith}
 use lib.ListN.{getD}
-use Rattle.chains.proofs.Down.{Above, above-start, above-on, above-end, above-broken}
+use Rattle.layout.proofs.Deciding.{differs}
+use Rattle.chains.proofs.Down.{Down, down-start, down-on, down-end}
 use Rattle.chains.proofs.marks.full.Statement.{statement}
 use Rattle.chains.proofs.marks.full.Tie as tie
 
 abbrev Inv-loop : tie.InvT-loop
-Inv-loop seen n k₀ k = Above n k (λ i. getD seen i 0 ≢ 0)
+Inv-loop seen n ok₀ k₀ ok k = Down n k (λ i. getD seen i 0 ≢ 0) ok
 
 abbrev μ-loop : tie.MeasureT-loop
-μ-loop seen n k₀ k = k
+μ-loop seen n ok₀ k₀ ok k = k
 
 loop-holds : tie.Need-loop-holds Inv-loop μ-loop
-loop-holds c = above-start _ _
+loop-holds c = down-start _ _
 
-returns : tie.Need-returns Inv-loop μ-loop
-returns c =
-    let here = c .before .before in
-    above-broken (here .before .loop .inv) (here .loop-test .taken) (λ ne. ne (c .if1 .taken))
+shared-slice-read-mark : tie.Need-shared-slice-read-mark Inv-loop μ-loop
+shared-slice-read-mark c = omega arith
+
+both-requires : tie.Need-both-requires Inv-loop μ-loop
+both-requires c κs = tt
+
+sub-k : tie.Need-sub-k Inv-loop μ-loop
+sub-k c = omega arith
+
+loop-less : tie.Need-loop-less Inv-loop μ-loop
+loop-less c = omega arith
 
 loop-again : tie.Need-loop-again Inv-loop μ-loop
 loop-again c =
     let here = c .before .before in
-    above-on (here .before .loop .inv) (here .loop-test .taken) (c .if1 .left)
+    down-on (here .before .loop .inv) (here .loop-test .taken) (differs _ _) (c .both .ensures)
 
-returns-2 : tie.Need-returns-2 Inv-loop μ-loop
-returns-2 c = above-end (c .before .loop .inv) (omega arith)
+returns : tie.Need-returns Inv-loop μ-loop
+returns c = down-end (c .before .loop .inv) (omega arith)
 
 pub full-spec : {M : Type 1} → statement M
-full-spec = tie.close (tie.spec Inv-loop μ-loop loop-holds
-    (λ c. omega arith) returns (λ c. omega arith) (λ c. omega arith) loop-again returns-2)
+full-spec =
+    tie.close
+    (tie.spec
+    Inv-loop
+    μ-loop
+    loop-holds
+    shared-slice-read-mark
+    both-requires
+    sub-k
+    loop-less
+    loop-again
+    returns)

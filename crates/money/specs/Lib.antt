@@ -1,0 +1,2 @@
+-- What the check of the money total says of its answers.
+pub mod Amount

@@ -1,0 +1,2 @@
+-- What the check of the passwords says of its answers.
+pub mod Passwords

@@ -1,0 +1,4 @@
+-- What functions over rows of slots ask for and answer.
+pub mod Distinct
+pub mod Buckets
+pub mod Slices

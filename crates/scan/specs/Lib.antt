@@ -1,0 +1,3 @@
+-- What the pass over the capabilities says of its answers.
+pub mod Scanned
+pub mod Slots
