@@ -119,3 +119,11 @@ found-live s n h =
 
 pub found-high : (s : State) (n : Name) → objectNamed s n ≤ 64
 found-high s n = rw (named-found s n) (find-le (named s n) 64)
+
+-- ---- the name of a living object, by its cells
+
+pub name-is : (b l w : List ℕ) (o : ℕ) → ObjectSlot o → masterOf l o ≢ 0 → (x : Name)
+    → x .volume ≡ getD b (Layout.VOLUME + o) 0 → x .serial ≡ getD l (Layout.SERIAL + o) 0
+    → x ≡ view b l w .object o .name
+name-is b l w o at alive x v n = rw (object-here b l w o alive, row Layout.VOLUME b o at, row Layout.SERIAL l o at)
+    (λ i. record { volume = v i; serial = n i })

@@ -59,7 +59,7 @@ past n f = by-eq n 0 (λ z. ap op z) (λ nz. List·getD-eq-default ops unknown (
     go (yes p) nz = absurd (f (omega arith) p)
     go (no p) nz = omega arith
 
-op-unknown : (n : ℕ) → NoneTo n 16 → op n ≡ unknown
+pub op-unknown : (n : ℕ) → NoneTo n 16 → op n ≡ unknown
 op-unknown n h = past n (outside n 16 h)
 
 pub unknown-fits : (n : ℕ) (c : Call) → NoneTo n 16 → argumentsFit (op n) c ≡ false

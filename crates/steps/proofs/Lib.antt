@@ -3,8 +3,10 @@ pub mod Finding
 pub mod Fitting
 pub mod Callers
 pub mod Holding
+pub mod Sharing
 pub mod Paying
 pub mod Entering
 pub mod Charging
 pub mod Marking
 pub mod Meeting
+pub mod Replying

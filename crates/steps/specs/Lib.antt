@@ -3,5 +3,6 @@ pub mod Request
 pub mod Run
 -- the steps of every call
 pub mod Refuses
+pub mod Replies
 pub mod Tests
 pub mod Paying

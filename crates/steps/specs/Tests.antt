@@ -37,3 +37,7 @@ unmarked b o = not (isSet (suspendedOf b o) || isSet (waitingOf b o) || isSet (t
 -- slot i holds a capability of object o with this password
 unfoldable pub held : State → ℕ → Password → ℕ → Bool
 held s o p i = eqb (s .cap i .object) o && samePassword (s .cap i .password) p
+
+-- slot i holds a capability of object o with this p1
+unfoldable pub taken : State → ℕ → ℕ → ℕ → Bool
+taken s o p1 i = eqb (s .cap i .object) o && eqb (s .cap i .password .p1) p1

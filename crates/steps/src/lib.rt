@@ -4,4 +4,5 @@ pub mod pay;
 pub mod present;
 pub mod ranges;
 pub mod request;
+pub mod taken;
 pub mod widen;

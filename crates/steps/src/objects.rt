@@ -1,11 +1,13 @@
 // The caller: an object found by its name, and refusal 3.
 ghost use mathlib.Core.Path.{_≡_};
 ghost use mathlib.Core.List.{List};
+ghost use mathlib.Core.Logic.{_≢_};
 ghost use Prim.Native.Nat.{ℕ, _≤_};
 ghost use lib.ListN.{length};
 ghost use Rattle.rules.specs.Store.{objectNamed};
 ghost use Rattle.rules.specs.Refusals.{running};
 ghost use Rattle.layout.specs.Layout;
+ghost use Rattle.layout.specs.Rows.{masterOf};
 ghost use Rattle.layout.specs.View.{view};
 ghost use Rattle.steps.specs.Request.{nameOf};
 ghost use Rattle.steps.specs.Tests.{Sizes, ObjectSlot, named, unmarked};
@@ -90,4 +92,15 @@ pub fn running(bytes: &[u8], links: &[u16], me: usize) -> bool
         return is_unmarked(bytes, me);
     }
     false
+}
+
+// The name of the living object in slot o.
+pub fn name_at(bytes: &[u8], links: &[u16], o: usize) -> Name
+    requires { ⌜ Sizes (now bytes) (now links) ⌝ ∗ ⌜ ObjectSlot o ⌝ ∗ ⌜ masterOf (now links) o ≢ 0 ⌝ }
+    ensures { λ r. ⌜ ((w : List ℕ) → nameOf r ≡ view (now (bytes .entry)) (now (links .entry)) w .object o .name) ⌝ }
+{
+    Name {
+        volume: wide8(bytes[VOLUME + o]),
+        serial: wide16(links[SERIAL + o]),
+    }
 }

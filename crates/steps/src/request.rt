@@ -1,5 +1,8 @@
 // A request as it comes by value, and the reply to it: the rules' call and answer, without the lent slices.
+ghost use Rattle.values.specs.Words.{passwordOf};
+ghost use Rattle.steps.specs.Request.{nameOf};
 ghost use Rattle.steps.specs.Refuses.{Refuses};
+ghost use Rattle.steps.specs.Replies.{HandsBack};
 use values::window::Window;
 
 // An object's name: its volume and a serial.
@@ -52,6 +55,22 @@ impl Reply {
                     serial: 0,
                 },
                 password: [0, 0],
+            },
+            length: 0,
+            moneyword: 0,
+            sum: 0,
+            count: 0,
+        }
+    }
+    // A new capability, as drawn.
+    pub fn hands_back(name: Name, password: [u32; 2]) -> Reply
+        ensures { λ r. ⌜ HandsBack (nameOf name) (passwordOf password) r ⌝ }
+    {
+        Reply {
+            code: 0,
+            capability: Capability {
+                name: name,
+                password: password,
             },
             length: 0,
             moneyword: 0,

@@ -1,0 +1,3 @@
+-- What a capability record made does to each row, and to the view.
+pub mod Making
+pub mod Showing
