@@ -1,0 +1,101 @@
+-- `take` cuts the chain after its n-th block.
+use Rattle.blocks.proofs.Cutting.{Block, last-block, taken-none, taken-some}
+use native.Mathlib.Omega.{arith}
+use lib.ListN.{length-set}
+use borrow.Author.Needs.{needs}
+use Rattle.blocks.proofs.take.take.Statement.{statement}
+use Rattle.blocks.proofs.take.take.Tie as tie
+
+-- the last of the n blocks
+last : (c : tie.After-free-block) → Block (c .free-block .result)
+last c =
+    last-block (c .before .before .before .before .before .pre .0) (c .before .before .before .if1 .left) _
+    (c .free-block .ensures)
+
+add-links : tie.Need-add-links
+add-links c = search needs
+
+mul-links : tie.Need-mul-links
+mul-links c = search needs
+
+slice-write-links : tie.Need-slice-write-links
+slice-write-links c = search needs
+
+same-length : tie.Need-same-length
+same-length c = search needs
+
+returns : tie.Need-returns
+returns c = taken-none _ _ _ (c .if1 .taken)
+
+slice-read-head : tie.Need-slice-read-head
+slice-read-head c = search needs
+
+sub-free-block : tie.Need-sub-free-block
+sub-free-block c = search needs
+
+free-block-requires : tie.Need-free-block-requires
+free-block-requires c κs = search needs
+
+add-links-2 : tie.Need-add-links-2
+add-links-2 c = omega (arith, last c)
+
+mul-links-2 : tie.Need-mul-links-2
+mul-links-2 c = omega (arith, last c)
+
+slice-read-links : tie.Need-slice-read-links
+slice-read-links c = omega (arith, last (c .before))
+
+slice-write-links-2 : tie.Need-slice-write-links-2
+slice-write-links-2 c = search needs
+
+add-links-3 : tie.Need-add-links-3
+add-links-3 c = omega (arith, last (c .before))
+
+mul-links-3 : tie.Need-mul-links-3
+mul-links-3 c = omega (arith, last (c .before))
+
+slice-write-links-3 : tie.Need-slice-write-links-3
+slice-write-links-3 c = simp length-set (omega (arith, last (c .before)))
+
+add-links-4 : tie.Need-add-links-4
+add-links-4 c = search needs
+
+mul-links-4 : tie.Need-mul-links-4
+mul-links-4 c = search needs
+
+slice-write-links-4 : tie.Need-slice-write-links-4
+slice-write-links-4 c = simp length-set (omega arith)
+
+same-length-2 : tie.Need-same-length-2
+same-length-2 c = search needs
+
+returns-2 : tie.Need-returns-2
+returns-2 c =
+    let s = c .before .before .before .before .before .before in
+    taken-some (s .args .links .now) (s .args .o) (s .args .n) (c .before .before .before .before .if1 .left) _
+    (c .before .free-block .ensures) (last (c .before))
+
+pub take-spec : {M : Type 1} → statement M
+take-spec =
+    tie.close
+    (tie.spec
+    add-links
+    mul-links
+    slice-write-links
+    same-length
+    returns
+    slice-read-head
+    sub-free-block
+    free-block-requires
+    add-links-2
+    mul-links-2
+    slice-read-links
+    slice-write-links-2
+    add-links-3
+    mul-links-3
+    slice-write-links-3
+    add-links-4
+    mul-links-4
+    slice-write-links-4
+    same-length-2
+    returns-2)
