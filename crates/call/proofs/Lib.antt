@@ -1,0 +1,2 @@
+-- The two ways that a call goes.
+pub mod Calling

@@ -1,0 +1,10 @@
+-- what the code of each call asks
+pub mod Asked
+-- the replies and the runs, as the code comes to them
+pub mod Replying
+pub mod Showing
+pub mod Entering
+-- the exact runs are what the rules give, and what they leave where they refuse
+pub mod Meeting
+pub mod Refusing
+pub mod Promising
