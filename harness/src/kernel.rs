@@ -1,5 +1,6 @@
 //! The verified kernel's C functions as safe functions on slices. All unsafe code is here.
 
+use crate::request::{Request, REPLY};
 use reference::raw::RawStore;
 
 extern "C" {
@@ -22,6 +23,44 @@ extern "C" {
         links_length: usize,
         words: *mut u32,
         words_length: usize,
+    ) -> u32;
+
+    fn store_call(
+        bytes: *mut u8,
+        bytes_length: usize,
+        links: *mut u16,
+        links_length: usize,
+        words: *mut u32,
+        words_length: usize,
+        text: *const u8,
+        text_length: usize,
+        buffer: *mut u8,
+        buffer_length: usize,
+        scratch: *mut u16,
+        scratch_length: usize,
+        request: *const u32,
+        request_length: usize,
+        reply: *mut u32,
+        reply_length: usize,
+    ) -> u32;
+
+    fn store_step(
+        bytes: *mut u8,
+        bytes_length: usize,
+        links: *mut u16,
+        links_length: usize,
+        words: *mut u32,
+        words_length: usize,
+        text: *const u8,
+        text_length: usize,
+        buffer: *mut u8,
+        buffer_length: usize,
+        scratch: *mut u16,
+        scratch_length: usize,
+        request: *const u32,
+        request_length: usize,
+        reply: *mut u32,
+        reply_length: usize,
     ) -> u32;
 }
 
@@ -57,5 +96,96 @@ pub fn fresh(supply: u32, [p1, p2]: [u32; 2], raw: &mut RawStore) -> u32 {
             words.as_mut_ptr(),
             words.len(),
         )
+    }
+}
+
+/// The type of `store_call` and `store_step`.
+type Entry = unsafe extern "C" fn(
+    *mut u8,
+    usize,
+    *mut u16,
+    usize,
+    *mut u32,
+    usize,
+    *const u8,
+    usize,
+    *mut u8,
+    usize,
+    *mut u16,
+    usize,
+    *const u32,
+    usize,
+    *mut u32,
+    usize,
+) -> u32;
+
+fn enter(
+    entry: Entry,
+    raw: &mut RawStore,
+    request: &Request,
+    buffer: &mut [u8],
+    scratch: &mut [u16],
+) -> [u32; REPLY] {
+    let RawStore { bytes, links, words } = raw;
+    let (numbers, text) = (&request.numbers, &request.text);
+    let mut reply = [0; REPLY];
+    // SAFETY: each pointer comes with its slice's length; the slices that are written are lent
+    // for writing, and no two overlap. `store_step` is handed well-formed stores alone.
+    let code = unsafe {
+        entry(
+            bytes.as_mut_ptr(),
+            bytes.len(),
+            links.as_mut_ptr(),
+            links.len(),
+            words.as_mut_ptr(),
+            words.len(),
+            text.as_ptr(),
+            text.len(),
+            buffer.as_mut_ptr(),
+            buffer.len(),
+            scratch.as_mut_ptr(),
+            scratch.len(),
+            numbers.as_ptr(),
+            numbers.len(),
+            reply.as_mut_ptr(),
+            reply.len(),
+        )
+    };
+    assert_eq!(code, reply[0], "the code is returned, too");
+    reply
+}
+
+/// A call on any store.
+pub fn call(
+    raw: &mut RawStore,
+    request: &Request,
+    buffer: &mut [u8],
+    scratch: &mut [u16],
+) -> [u32; REPLY] {
+    enter(store_call, raw, request, buffer, scratch)
+}
+
+/// A store that the verified check has found well formed, and only `step` has changed since.
+#[derive(Clone)]
+pub struct FormedStore(RawStore);
+
+impl FormedStore {
+    /// The store, if it is well formed.
+    pub fn new(raw: RawStore) -> Option<FormedStore> {
+        check(&raw).then_some(FormedStore(raw))
+    }
+
+    /// A call on the store, which is not checked again.
+    pub fn step(
+        &mut self,
+        request: &Request,
+        buffer: &mut [u8],
+        scratch: &mut [u16],
+    ) -> [u32; REPLY] {
+        enter(store_step, &mut self.0, request, buffer, scratch)
+    }
+
+    pub fn raw(&self) -> &RawStore {
+        &self.0
     }
 }

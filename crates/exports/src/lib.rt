@@ -4,7 +4,15 @@ ghost use mathlib.Core.List.{_∷_, []};
 ghost use Rattle.layout.specs.WellFormed.{WellFormed};
 ghost use Rattle.layout.specs.Decides.{Decides};
 ghost use Rattle.values.specs.Words.{passwordOf};
+ghost use lib.ListN.{length};
 ghost use Rattle.fresh.specs.Fresh.{Fresh};
+ghost use Rattle.kernel.specs.Slices.{slices};
+ghost use Rattle.exports.specs.Numbers.{requestOf, numbersOf, Exported};
+use steps::request::Capability;
+use steps::request::Name;
+use steps::request::Reply;
+use steps::request::Request;
+use values::window::Window;
 
 // Whether the store is well formed.
 #[no_mangle]
@@ -28,4 +36,128 @@ pub extern "C" fn store_fresh(
         (now (bytes .exit)) (now (links .exit)) (now (words .exit)) r ⌝ }
 {
     fresh::fresh(supply, [p1, p2], bytes, links, words)
+}
+
+// The 19 numbers of a request.
+fn request_of(numbers: &[u32]) -> Request
+    requires { ⌜ length (now numbers) ≡ 19 ⌝ }
+    ensures { λ r. ⌜ r ≡ requestOf (now (numbers .entry)) ⌝ }
+{
+    Request {
+        number: numbers[0],
+        caller: Name {
+            volume: numbers[1],
+            serial: numbers[2],
+        },
+        presented: Capability {
+            name: Name {
+                volume: numbers[3],
+                serial: numbers[4],
+            },
+            password: [numbers[5], numbers[6]],
+        },
+        name: Name {
+            volume: numbers[7],
+            serial: numbers[8],
+        },
+        size: numbers[9],
+        flag: numbers[10],
+        rights: numbers[11],
+        drawn: [numbers[12], numbers[13]],
+        range: Window {
+            start: numbers[14],
+            end: numbers[15],
+        },
+        sum: numbers[16],
+        lock: [numbers[17], numbers[18]],
+    }
+}
+
+// The 9 numbers of a reply.
+fn put_reply(r: Reply, numbers: &mut [u32])
+    requires { ⌜ length (now numbers) ≡ 9 ⌝ }
+    ensures { λ _. ⌜ now (numbers .exit) ≡ numbersOf r ⌝ }
+{
+    let capability = r.capability;
+    let password = capability.password;
+    numbers[0] = r.code;
+    numbers[1] = capability.name.volume;
+    numbers[2] = capability.name.serial;
+    numbers[3] = password[0];
+    numbers[4] = password[1];
+    numbers[5] = r.length;
+    numbers[6] = r.moneyword;
+    numbers[7] = r.sum;
+    numbers[8] = r.count;
+}
+
+// Makes a call: 19 numbers of a request, 9 of the reply. Where either slice has another length, 2, and nothing is written.
+#[no_mangle]
+pub extern "C" fn store_call(
+    bytes: &mut [u8],
+    links: &mut [u16],
+    words: &mut [u32],
+    text: &[u8],
+    buffer: &mut [u8],
+    scratch: &mut [u16],
+    request: &[u32],
+    reply: &mut [u32],
+) -> u32
+    ensures { λ r. ⌜ Exported (now (request .entry)) (now (text .entry)) r (now (reply .entry)) (now (reply .exit))
+        (slices (now (bytes .entry)) (now (links .entry)) (now (words .entry)) (now (buffer .entry)) (now (scratch .entry)))
+        (slices (now (bytes .exit)) (now (links .exit)) (now (words .exit)) (now (buffer .exit)) (now (scratch .exit))) ⌝ }
+{
+    if request.len() != 19 {
+        return 2;
+    }
+    if reply.len() != 9 {
+        return 2;
+    }
+    let r = call::call(
+        bytes,
+        links,
+        words,
+        text,
+        buffer,
+        scratch,
+        request_of(request),
+    );
+    put_reply(r, reply);
+    r.code
+}
+
+// The same on a store that its caller has found well formed, which is not checked again.
+#[no_mangle]
+pub extern "C" fn store_step(
+    bytes: &mut [u8],
+    links: &mut [u16],
+    words: &mut [u32],
+    text: &[u8],
+    buffer: &mut [u8],
+    scratch: &mut [u16],
+    request: &[u32],
+    reply: &mut [u32],
+) -> u32
+    requires { ⌜ WellFormed (now bytes) (now links) (now words) ⌝ }
+    ensures { λ r. ⌜ Exported (now (request .entry)) (now (text .entry)) r (now (reply .entry)) (now (reply .exit))
+        (slices (now (bytes .entry)) (now (links .entry)) (now (words .entry)) (now (buffer .entry)) (now (scratch .entry)))
+        (slices (now (bytes .exit)) (now (links .exit)) (now (words .exit)) (now (buffer .exit)) (now (scratch .exit))) ⌝ }
+{
+    if request.len() != 19 {
+        return 2;
+    }
+    if reply.len() != 9 {
+        return 2;
+    }
+    let r = kernel::step(
+        bytes,
+        links,
+        words,
+        text,
+        buffer,
+        scratch,
+        request_of(request),
+    );
+    put_reply(r, reply);
+    r.code
 }

@@ -1,0 +1,66 @@
+-- A request and a reply as they cross to C: slices of 32-bit numbers, in the order of the structs' fields.
+use Prim.Native.Nat.{ℕ}
+use mathlib.Core.Path.{_≡_}
+use mathlib.Core.List.{List, [], _∷_}
+use lib.ListN.{length, getD}
+use Rattle.steps.specs.declared.request.Request.{Request}
+use Rattle.steps.specs.declared.request.Reply.{Reply}
+use Rattle.kernel.specs.Slices.{Slices}
+use Rattle.call.specs.Calls.{Calls}
+
+-- the number, the caller, the capability presented, the name, size, flag, rights, the password drawn, the range, the
+-- sum, the lock
+unfoldable pub requestOf : List ℕ → Request
+requestOf l = record {
+  number = getD l 0 0;
+  caller = record { volume = getD l 1 0; serial = getD l 2 0 };
+  presented = record {
+    name = record { volume = getD l 3 0; serial = getD l 4 0 };
+    password = getD l 5 0 ∷ getD l 6 0 ∷ [];
+  };
+  name = record { volume = getD l 7 0; serial = getD l 8 0 };
+  size = getD l 9 0;
+  flag = getD l 10 0;
+  rights = getD l 11 0;
+  drawn = getD l 12 0 ∷ getD l 13 0 ∷ [];
+  range = record { start = getD l 14 0; end = getD l 15 0 };
+  sum = getD l 16 0;
+  lock = getD l 17 0 ∷ getD l 18 0 ∷ [];
+}
+
+-- the code, a new capability, length, moneyword, sum, and how many bytes stand at the buffer's front
+unfoldable pub numbersOf : Reply → List ℕ
+numbersOf r =
+    r .code
+    ∷ r .capability .name .volume
+    ∷ r .capability .name .serial
+    ∷ getD (r .capability .password) 0 0
+    ∷ getD (r .capability .password) 1 0
+    ∷ r .length
+    ∷ r .moneyword
+    ∷ r .sum
+    ∷ r .count
+    ∷ []
+
+-- slices of these lengths
+pub record Fitting (request reply : List ℕ) : Type 0 where
+  pub asks : length request ≡ 19
+  pub tells : length reply ≡ 9
+
+-- a call is made, and its reply written
+pub record Made (request text : List ℕ) (code : ℕ) (reply′ : List ℕ) (was is : Slices) : Type 0 where
+  pub reply : Reply
+  pub call : Calls (requestOf request) text reply was is
+  pub numbers : reply′ ≡ numbersOf reply
+  pub code-is : code ≡ reply .code
+
+-- nothing is written
+pub record Kept (code : ℕ) (reply reply′ : List ℕ) (was is : Slices) : Type 0 where
+  pub code-is : code ≡ 2
+  pub reply-is : reply′ ≡ reply
+  pub slices-are : is ≡ was
+
+-- code is what is returned, reply′ and is are the slices at exit
+pub record Exported (request text : List ℕ) (code : ℕ) (reply reply′ : List ℕ) (was is : Slices) : Type 0 where
+  pub made : Fitting request reply → Made request text code reply′ was is
+  pub kept : (Fitting request reply → ⊥) → Kept code reply reply′ was is

@@ -1,0 +1,99 @@
+//! A call as the verified kernel takes it: 19 numbers and the bytes that come with it; and its
+//! reply, 9 numbers, as an answer.
+
+use reference::call::{Action, Answer, Call, Key, Name, Operation};
+
+/// The numbers of a request, in the order of the kernel's `Request`.
+pub const REQUEST: usize = 19;
+/// The numbers of a reply, in the order of the kernel's `Reply`.
+pub const REPLY: usize = 9;
+
+/// Everything that a call can bring; what a call does not use is what `filler` says.
+#[derive(Clone, Debug)]
+pub struct Request {
+    pub numbers: [u32; REQUEST],
+    pub text: Vec<u8>,
+}
+
+const NUMBER: usize = 0;
+const CALLER: usize = 1;
+const PRESENTED: usize = 3;
+const NAME: usize = 7;
+const SIZE: usize = 9;
+const FLAG: usize = 10;
+const RIGHTS: usize = 11;
+const DRAWN: usize = 12;
+const RANGE: usize = 14;
+const SUM: usize = 16;
+const LOCK: usize = 17;
+
+impl Request {
+    /// The call with `filler` in all fields that it does not use.
+    pub fn new(call: &Call, filler: u32) -> Request {
+        let mut request = Request { numbers: [filler; REQUEST], text: Vec::new() };
+        request.numbers[NUMBER] = call.operation.number();
+        request.put(CALLER, &name(call.caller));
+        match &call.operation {
+            Operation::MakeObj { size, flag, rights, drawn } => {
+                request.put(NAME, &name(drawn.name));
+                request.put(SIZE, &[*size]);
+                request.put(FLAG, &[*flag]);
+                request.put(RIGHTS, &[*rights]);
+                request.put(DRAWN, &[drawn.p1, drawn.p2]);
+            }
+            Operation::On(key, action) => {
+                request.put(PRESENTED, &name(key.name));
+                request.put(PRESENTED + 2, &[key.p1, key.p2]);
+                request.act(action);
+            }
+            Operation::Receive | Operation::Wait | Operation::Unknown(_) => {}
+        }
+        request
+    }
+
+    fn put(&mut self, at: usize, numbers: &[u32]) {
+        self.numbers[at..at + numbers.len()].copy_from_slice(numbers);
+    }
+
+    fn act(&mut self, action: &Action) {
+        match action {
+            Action::Read { start, end } => self.put(RANGE, &[*start, *end]),
+            Action::Write { start, end, data } => {
+                self.put(RANGE, &[*start, *end]);
+                self.text.clone_from(data);
+            }
+            Action::DeriveCap { mask, start, end, p1, p2 } => {
+                self.put(RIGHTS, &[*mask]);
+                self.put(RANGE, &[*start, *end]);
+                self.put(DRAWN, &[*p1, *p2]);
+            }
+            Action::RenameObj { p1, p2 } => self.put(DRAWN, &[*p1, *p2]),
+            Action::Withdraw { sum } | Action::Deposit { sum } | Action::Revive { sum } => {
+                self.put(SUM, &[*sum]);
+            }
+            Action::ApplyLock { words } => self.put(LOCK, words),
+            Action::Send { sum, message } => {
+                self.put(SUM, &[*sum]);
+                self.text.clone_from(message);
+            }
+            Action::CapInfo | Action::DeleteCap | Action::Suspend | Action::Resume => {}
+        }
+    }
+}
+
+fn name(name: Name) -> [u32; 2] {
+    [name.volume, name.serial]
+}
+
+/// The answer that a reply gives, with its bytes from the buffer's front.
+pub fn answer(reply: [u32; REPLY], buffer: &[u8]) -> Answer {
+    let [code, volume, serial, p1, p2, length, moneyword, sum, count] = reply;
+    Answer {
+        code,
+        capability: Key { name: Name { volume, serial }, p1, p2 },
+        length,
+        moneyword,
+        sum,
+        bytes: buffer[..count as usize].to_vec(),
+    }
+}

@@ -1,0 +1,287 @@
+//! The verified calls beside the reference: the answer, every byte of the buffer and cell of the
+//! scratch, and the meaning of the whole store after each call.
+
+use harness::kernel;
+use harness::request::{answer, Request};
+use reference::call::{call_kind, Action, Answer, Call, Key, Name, Operation};
+use reference::claims::check_ledger;
+use reference::coverage::refusals;
+use reference::damage::{damage, Kind};
+use reference::encode::encode;
+use reference::generate::Generator;
+use reference::kernel::{Store, MAX_RIGHTS};
+use reference::layout::{BYTES, FIRST_CHILD, LINKS, MASTER, NEXT_CAP, P1, P2, WORDS};
+use reference::ledger::Ledger;
+use reference::oracle::well_formed;
+use reference::profiles::PROFILES;
+use reference::random::Random;
+use reference::raw::{decode, RawStore};
+use reference::samples::{shaped, stores_of_runs, Shape};
+use std::collections::BTreeMap;
+
+const CALLS: u64 = 1_000_000;
+/// After how many calls the ledger is held to the store; after a done delete_cap, always.
+const CLAIMS: u32 = 20;
+
+/// How often each call got each answer; unknown numbers stand under 0.
+type Answers = BTreeMap<(u32, u32), u64>;
+
+/// A raw store and the store that it means.
+struct Pair {
+    raw: RawStore,
+    store: Store,
+}
+
+/// What refusals leave: 1 to 3 nothing changed, 4 one byte, later ones the fee's two words.
+fn moves_only_the_fee(code: u32, before: &RawStore, after: &RawStore) -> bool {
+    let bytes = differences(&before.bytes, &after.bytes);
+    let words = differences(&before.words, &after.words);
+    before.links == after.links
+        && match code {
+            1..=3 => bytes == 0 && words == 0,
+            4 => bytes == 1 && words == 0,
+            _ => bytes == 0 && words <= 2,
+        }
+}
+
+fn differences<T: PartialEq>(before: &[T], after: &[T]) -> usize {
+    before.iter().zip(after).filter(|(b, a)| b != a).count()
+}
+
+/// The scratch after a call: all zero after a done delete_cap or rename_obj.
+fn scratch_after(number: u32, code: u32, scratch: &[u16]) -> Vec<u16> {
+    if code == 0 && [6, 7].contains(&number) {
+        vec![0; scratch.len()]
+    } else {
+        scratch.to_vec()
+    }
+}
+
+/// The buffer after a call: the answer's bytes at its front, and no later byte changed.
+fn buffer_after(bytes: &[u8], buffer: &[u8]) -> Vec<u8> {
+    let mut after = buffer.to_vec();
+    after[..bytes.len()].copy_from_slice(bytes);
+    after
+}
+
+/// Makes the call on the raw store alone; its answer, with buffer and scratch as `expected` has them.
+fn call_raw(raw: &mut RawStore, call: &Call, expected: &Answer, random: &mut Random) -> Answer {
+    let request = Request::new(call, random.bits() as u32);
+    let mut buffer = random.bytes(call.buffer);
+    let mut scratch: Vec<u16> = (0..call.scratch).map(|_| random.bits() as u16).collect();
+    let (lent, worked) = (buffer.clone(), scratch.clone());
+    let reply = kernel::call(raw, &request, &mut buffer, &mut scratch);
+    assert!(buffer == buffer_after(&expected.bytes, &lent), "buffer: {call:?}");
+    assert!(scratch == scratch_after(request.numbers[0], expected.code, &worked), "scratch: {call:?}");
+    answer(reply, &buffer)
+}
+
+impl Pair {
+    /// Makes the call on both, and compares all that it leaves; the answer's code.
+    fn call(&mut self, call: &Call, random: &mut Random, answers: &mut Answers) -> u32 {
+        let before = self.raw.clone();
+        let expected = self.store.run(call);
+        let given = call_raw(&mut self.raw, call, &expected, random);
+        assert_eq!(given, expected, "{call:?}");
+        assert!(
+            given.code == 0 || moves_only_the_fee(given.code, &before, &self.raw),
+            "changed by a refusal: {call:?}"
+        );
+        assert!(decode(&self.raw).as_ref() == Some(&self.store), "meaning: {call:?}");
+        let number = call_kind(call.operation.number()).map_or(0, |kind| kind.number);
+        *answers.entry((number, given.code)).or_default() += 1;
+        given.code
+    }
+}
+
+/// A run of each profile from the fresh store, laid out anew now and then, with the ledger
+/// beside it: it is fed each call and whether the verified kernel did it.
+fn runs(seed: u64, answers: &mut Answers) {
+    for profile in PROFILES {
+        let mut generator = Generator::new(profile, seed);
+        let mut random = Random::new(seed);
+        let [supply, p1, p2] = generator.first();
+        let mut raw = junk(&mut random);
+        assert_eq!(kernel::fresh(supply, [p1, p2], &mut raw), 0);
+        let mut pair = Pair { raw, store: Store::fresh(supply, p1, p2) };
+        let mut ledger = Ledger::fresh(p1, p2);
+        for at in 0..profile.calls {
+            if random.chance(5) {
+                pair.raw = encode(&pair.store, &mut random);
+            }
+            let call = generator.next_call(&pair.store);
+            let done = pair.call(&call, &mut random, answers) == 0;
+            ledger.feed(&call, done);
+            if at % CLAIMS == 0 || (done && call.operation.number() == 6) {
+                check_ledger(&pair.store, &ledger).unwrap_or_else(|wrong| panic!("{wrong}: {call:?}"));
+            }
+        }
+        assert!(well_formed(&pair.raw));
+        check_ledger(&pair.store, &ledger).unwrap_or_else(|wrong| panic!("{wrong}"));
+    }
+}
+
+fn junk(random: &mut Random) -> RawStore {
+    RawStore {
+        bytes: random.bytes(BYTES),
+        links: (0..LINKS).map(|_| random.bits() as u16).collect(),
+        words: (0..WORDS).map(|_| random.bits() as u32).collect(),
+    }
+}
+
+#[test]
+fn random_calls() {
+    let mut answers = Answers::new();
+    for seed in 1.. {
+        if answers.values().sum::<u64>() >= CALLS {
+            break;
+        }
+        runs(seed, &mut answers);
+    }
+    for number in 0..=16 {
+        for code in refusals(number).iter().chain([0].iter().filter(|_| number > 0)) {
+            let count = answers.get(&(number, *code)).copied().unwrap_or(0);
+            println!("call {number} answer {code}: {count}");
+            assert!(count > 0, "not met: call {number} answer {code}");
+        }
+    }
+}
+
+#[test]
+fn calls_on_full_stores() {
+    let mut random = Random::new(11);
+    let mut answers = Answers::new();
+    for shape in [Shape::Wide, Shape::Deep, Shape::Random].repeat(4) {
+        for objects in [1, 8, 64] {
+            let size = (32_768 / objects as usize).min(8_192);
+            let mut store = shaped(objects, size, 512 / objects, shape, &mut random);
+            for object in store.objects.values_mut() {
+                object.cash = 1_000_000;
+            }
+            let mut pair = Pair { raw: encode(&store, &mut random), store };
+            let mut generator = Generator::new(PROFILES[0], random.bits());
+            for _ in 0..200 {
+                let call = generator.next_call(&pair.store);
+                pair.call(&call, &mut random, &mut answers);
+            }
+        }
+    }
+}
+
+/// A call on a store that is not well formed is answered 1 and changes nothing.
+#[test]
+fn calls_on_damaged_stores() {
+    let kinds = Kind::all();
+    let mut random = Random::new(12);
+    let mut refused = 0;
+    stores_of_runs(3, 10, &mut |store: &Store| {
+        let mut generator = Generator::new(PROFILES[0], random.bits());
+        for _ in 0..8 {
+            let mut raw = encode(store, &mut random);
+            damage(&mut raw, &kinds, 1, &mut random);
+            if well_formed(&raw) {
+                continue;
+            }
+            let before = raw.clone();
+            let call = generator.next_call(store);
+            let expected = Answer { code: 1, ..Answer::default() };
+            assert_eq!(call_raw(&mut raw, &call, &expected, &mut random), expected);
+            assert!(raw == before, "changed: {call:?}");
+            refused += 1;
+        }
+    });
+    println!("{refused} damaged stores");
+    assert!(refused > 1_000);
+}
+
+const BOSS: Name = Name { volume: 0, serial: 1 };
+
+fn by_boss(operation: Operation) -> Call {
+    Call { caller: BOSS, operation, buffer: 256, scratch: 512 }
+}
+
+/// 62 objects of 8 blocks and one of 16, then capabilities until none is free, then all is
+/// deleted again, over and over.
+#[test]
+fn filled_and_emptied() {
+    let mut random = Random::new(13);
+    let mut answers = Answers::new();
+    let mut raw = junk(&mut random);
+    assert_eq!(kernel::fresh(4_000_000, [5, 9], &mut raw), 0);
+    let mut pair = Pair { raw, store: Store::fresh(4_000_000, 5, 9) };
+    for _ in 0..6 {
+        let masters: Vec<Key> = (2..=64).map(|serial| key(serial, &mut random)).collect();
+        let mut code = |operation, random: &mut Random| pair.call(&by_boss(operation), random, &mut answers);
+        for (at, drawn) in masters.iter().enumerate() {
+            let size = if at == 30 { 1_024 } else { 512 };
+            let make = Operation::MakeObj { size, flag: 0, rights: MAX_RIGHTS, drawn: *drawn };
+            assert_eq!(code(make, &mut random), 0);
+        }
+        let more = Operation::MakeObj { size: 0, flag: 0, rights: 1, drawn: key(70, &mut random) };
+        assert_eq!(code(more, &mut random), 13);
+        for at in 0..448 {
+            let master = masters[at % masters.len()];
+            let derive = derive(master, 1_000_000 + at as u32);
+            assert_eq!(code(derive, &mut random), 0);
+        }
+        assert_eq!(code(derive(masters[0], 3_000_000), &mut random), 13);
+        for at in (0..masters.len()).rev() {
+            let delete = Operation::On(masters[(at * 5) % masters.len()], Action::DeleteCap);
+            assert_eq!(code(delete, &mut random), 0);
+        }
+        assert_eq!(pair.store.objects.len(), 1);
+        assert!(well_formed(&pair.raw));
+    }
+}
+
+fn key(serial: u32, random: &mut Random) -> Key {
+    let p1 = random.below(1_000_000);
+    Key { name: Name { volume: serial % 4, serial }, p1, p2: random.bits() as u32 }
+}
+
+fn derive(parent: Key, p1: u32) -> Operation {
+    Operation::On(parent, Action::DeriveCap { mask: MAX_RIGHTS, start: 0, end: 512, p1, p2: 7 })
+}
+
+/// Chains 512 deep and 511 wide: the first, middle or last link is deleted, until none is left.
+#[test]
+fn deleted_at_each_link() {
+    let mut random = Random::new(14);
+    let mut answers = Answers::new();
+    for shape in [Shape::Wide, Shape::Deep] {
+        for place in [0, 1, 2] {
+            let mut store = shaped(1, 64, 512, shape, &mut random);
+            for object in store.objects.values_mut() {
+                object.cash = 1_000_000;
+            }
+            let mut pair = Pair { raw: encode(&store, &mut random), store };
+            loop {
+                let links = links_below_master(&pair.raw);
+                if links.is_empty() {
+                    break;
+                }
+                let at = [0, links.len() / 2, links.len() - 1][place];
+                let name = Name { volume: 0, serial: 0 };
+                let (p1, p2) = links[at];
+                let delete = Operation::On(Key { name, p1, p2 }, Action::DeleteCap);
+                let call = Call { caller: name, operation: delete, buffer: 256, scratch: 512 };
+                assert_eq!(pair.call(&call, &mut random, &mut answers), 0);
+            }
+            assert_eq!(pair.store.capabilities.len(), 1);
+            assert!(well_formed(&pair.raw));
+        }
+    }
+}
+
+/// The passwords along the first children of a store of one object, each level's siblings too.
+fn links_below_master(raw: &RawStore) -> Vec<(u32, u32)> {
+    let master = (1..65).map(|object| raw.link(MASTER, object)).find(|slot| *slot != 0);
+    let mut found = Vec::new();
+    let mut at = raw.link(FIRST_CHILD, master.unwrap_or(0));
+    while at != 0 {
+        found.push((raw.get(P1, at), raw.get(P2, at)));
+        let next = raw.link(NEXT_CAP, at);
+        at = if next != 0 { next } else { raw.link(FIRST_CHILD, at) };
+    }
+    found
+}
