@@ -1,0 +1,4 @@
+pub mod Pushed
+pub mod Ends
+pub mod Output
+pub mod Example

@@ -1,0 +1,67 @@
+// Whether a line has the numbers that its call asks.
+ghost use mathlib.Core.Path.{_≡_};
+ghost use mathlib.Core.Bool.{_&&_};
+ghost use lib.Dec.{leb};
+ghost use lib.ListN.{length, drop};
+ghost use Rattle.rules.specs.Rights.{op};
+ghost use Rattle.rules.specs.Script.{areBytes, lineFits, nth};
+
+// The numbers from place `from` on are 0 to 255.
+fn are_bytes(numbers: &[u32], from: usize) -> bool
+    ensures { λ r. ⌜ r ≡ areBytes (drop from (now (numbers .entry))) ⌝ }
+{
+    let mut i = from;
+    while i < numbers.len() {
+        if numbers[i] > 255 {
+            return false;
+        }
+        i += 1;
+    }
+    true
+}
+
+// So many numbers or more, and bytes after those.
+fn ends_in_bytes(numbers: &[u32], from: usize) -> bool
+    ensures { λ r. ⌜ r ≡ (leb from (length (now (numbers .entry))) && areBytes (drop from (now (numbers .entry)))) ⌝ }
+{
+    if from <= numbers.len() {
+        return are_bytes(numbers, from);
+    }
+    false
+}
+
+// The i-th number, counted from 0, and 0 past the last.
+pub(crate) fn nth(numbers: &[u32], i: usize) -> u32
+    ensures { λ r. ⌜ r ≡ nth (now (numbers .entry)) i ⌝ }
+{
+    if i < numbers.len() {
+        return numbers[i];
+    }
+    0
+}
+
+// A line has as many numbers as its call asks, and bytes where it asks them.
+pub fn line_fits(numbers: &[u32]) -> bool
+    ensures { λ r. ⌜ r ≡ lineFits (op (nth (now (numbers .entry)) 0)) (now (numbers .entry)) ⌝ }
+{
+    let n = nth(numbers, 0);
+    match n {
+        1 => numbers.len() == 10,
+        2 => numbers.len() == 9,
+        3 => ends_in_bytes(numbers, 9),
+        4 => numbers.len() == 7,
+        5 => numbers.len() == 12,
+        6 => numbers.len() == 7,
+        7 => numbers.len() == 9,
+        8 => numbers.len() == 8,
+        9 => numbers.len() == 8,
+        10 => numbers.len() == 7,
+        11 => numbers.len() == 7,
+        12 => numbers.len() == 9,
+        13 => ends_in_bytes(numbers, 8),
+        14 => numbers.len() == 3,
+        15 => numbers.len() == 3,
+        16 => numbers.len() == 8,
+        _ => false,
+    }
+}

@@ -1,0 +1,4 @@
+pub mod Numeral
+pub mod Lines
+pub mod Scan
+pub mod Pasted
