@@ -24,45 +24,36 @@ extern "C" {
         words: *mut u32,
         words_length: usize,
     ) -> u32;
-
-    fn store_call(
-        bytes: *mut u8,
-        bytes_length: usize,
-        links: *mut u16,
-        links_length: usize,
-        words: *mut u32,
-        words_length: usize,
-        text: *const u8,
-        text_length: usize,
-        buffer: *mut u8,
-        buffer_length: usize,
-        scratch: *mut u16,
-        scratch_length: usize,
-        request: *const u32,
-        request_length: usize,
-        reply: *mut u32,
-        reply_length: usize,
-    ) -> u32;
-
-    fn store_step(
-        bytes: *mut u8,
-        bytes_length: usize,
-        links: *mut u16,
-        links_length: usize,
-        words: *mut u32,
-        words_length: usize,
-        text: *const u8,
-        text_length: usize,
-        buffer: *mut u8,
-        buffer_length: usize,
-        scratch: *mut u16,
-        scratch_length: usize,
-        request: *const u32,
-        request_length: usize,
-        reply: *mut u32,
-        reply_length: usize,
-    ) -> u32;
 }
+
+/// Declares entry points of the kernel: the store's slices, the text, the buffer, the scratch, the
+/// request's numbers and those of the reply.
+macro_rules! entries {
+    ($($name:ident),*) => {
+        extern "C" {
+            $(fn $name(
+                bytes: *mut u8,
+                bytes_length: usize,
+                links: *mut u16,
+                links_length: usize,
+                words: *mut u32,
+                words_length: usize,
+                text: *const u8,
+                text_length: usize,
+                buffer: *mut u8,
+                buffer_length: usize,
+                scratch: *mut u16,
+                scratch_length: usize,
+                request: *const u32,
+                request_length: usize,
+                reply: *mut u32,
+                reply_length: usize,
+            ) -> u32;)*
+        }
+    };
+}
+
+entries!(store_call, store_step);
 
 /// The check of a store: whether it is well formed.
 pub fn check(raw: &RawStore) -> bool {
