@@ -131,7 +131,7 @@ module _ {b l w : List ℕ} {c : Call} {me : ℕ} (A : LateAsks b l w c me) (who
   met-own e shows =
       let m = own-meets (record {
         late = A;
-        held = λ p. presented-held b l w (A .formed) me (c .presented) (shows p) .held;
+        held = λ p. presented-held b l w (A .formed) me (c .presented) (shows p);
       }) who refl in
       record {
         choice = m .choice;

@@ -25,8 +25,7 @@ use Rattle.steps.specs.Replies as Replies
 use Rattle.steps.specs.Run.{Ran, over, settled}
 use Rattle.steps.proofs.Meeting.{stopped, goes-on}
 use Rattle.marks.specs.Runs.{suspendedRun, lockRun, waitRun, reviveRun, infoRun, told}
-use Rattle.purse.specs.Calls.{ranWith}
-use Rattle.purse.proofs.Settling.{left-refused}
+use Rattle.purse.specs.Calls.{withdrawRun, depositRun}
 use Rattle.transfer.specs.Runs.{readRun, writeRun, handed}
 use Rattle.mail.specs.Runs.{sendRun, receiveRun, answered}
 use Rattle.make.specs.Runs.{makeRun, made}
@@ -59,13 +58,9 @@ module _ (b l w : List ℕ) where
       (λ z. subst (Refusing b l w) (goes-on b l w x z) (λ nz. absurd (nz done)))
       (λ nz. subst (Refusing b l w) (stopped b l w x n refl nz) (λ _. over-leaves n))
 
-  words-leave : (n : ℕ) (after : List ℕ) → Refusing b l w (ranWith n b l w after)
-  unfolding ranWith code
-  words-leave n after nz = record { bytes = refl; links = refl; words = left-refused n w after nz }
-
   own-leaves : (c : Call) (me k : ℕ) (o : Op) → Refusing b l w (ownRun b l w c me k o)
   unfolding ownRun suspendedRun lockRun waitRun reviveRun infoRun told tells readRun writeRun handed handsOver sendRun
-      receiveRun answered makeRun made deriveRun derived deleteRun renameRun renamed Replies.handed over code
+      receiveRun answered withdrawRun depositRun makeRun made deriveRun derived deleteRun renameRun renamed Replies.handed over code
   own-leaves c me k makeObj = settled-leaves _ _ refl
   own-leaves c me k read = settled-leaves _ _ refl
   own-leaves c me k write = settled-leaves _ _ refl
@@ -75,8 +70,8 @@ module _ (b l w : List ℕ) where
       (λ e. subst (Refusing b l w) (sym (pick-yes (eqb (parentOf l k) 0) _ _ e)) (λ nz. absurd (nz refl)))
       (λ e. subst (Refusing b l w) (sym (pick-not (eqb (parentOf l k) 0) _ _ e)) (λ nz. absurd (nz refl)))
   own-leaves c me k renameObj = settled-leaves _ _ refl
-  own-leaves c me k withdraw = words-leave _ _
-  own-leaves c me k deposit = words-leave _ _
+  own-leaves c me k withdraw = settled-leaves _ _ refl
+  own-leaves c me k deposit = settled-leaves _ _ refl
   own-leaves c me k suspend = settled-leaves _ _ refl
   own-leaves c me k resume = settled-leaves _ _ refl
   own-leaves c me k applyLock = settled-leaves _ _ refl

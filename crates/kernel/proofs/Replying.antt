@@ -25,7 +25,6 @@ use Rattle.steps.specs.Refuses.{Refuses}
 use Rattle.steps.specs.Replies as Shared
 use Rattle.steps.specs.Run.{Ran, over, overlay}
 use Rattle.steps.proofs.Meeting.{stopped, goes-on}
-use Rattle.purse.specs.Calls.{Settled, ranWith}
 use Rattle.prune.specs.Scratch.{scratchLeft}
 use Rattle.delete.specs.Runs.{deleteRun}
 use Rattle.transfer.specs.Runs.{range, window, part, handed, readRun, Reads, ReadAsks}
@@ -217,13 +216,6 @@ unfolding deleteRun over code
 deleted-code b l w k b′ l′ w′ e = ap (λ (x : Ran). x .answer .code) e ∙ by-bool (eqb (parentOf l k) 0)
     (λ t. ap (λ (x : Ran). x .answer .code) (pick-yes (eqb (parentOf l k) 0) _ _ t))
     (λ t. ap (λ (x : Ran). x .answer .code) (pick-not (eqb (parentOf l k) 0) _ _ t))
-
--- ---- withdraw and deposit
-
-pub settled-over : {n : ℕ} {w after : List ℕ} {r : ℕ} {exit : List ℕ} (b l : List ℕ) → Settled n w after r exit
-    → over r b l exit ≡ ranWith n b l w after
-unfolding over ranWith
-settled-over b l S = λ d. record { answer = code (S .answer-is d); bytes = b; links = l; words = S .words-are d }
 
 -- ---- read
 

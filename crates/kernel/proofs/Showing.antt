@@ -139,7 +139,7 @@ module _ (b l w : List ℕ) (c : Call) (me k : ℕ) where
 
 pub held-shown : {b l w : List ℕ} → WellFormed b l w → (me : ℕ) (x : Capability) (k : ℕ)
     → k ≡ presented (view b l w) me x → k ≢ 0 → Held l k
-held-shown {b} {l} {w} W me x k e nz = subst (Held l) (sym e) (presented-held b l w W me x (λ z. nz (e ∙ z)) .held)
+held-shown {b} {l} {w} W me x k e nz = subst (Held l) (sym e) (presented-held b l w W me x (λ z. nz (e ∙ z)))
 
 pub none-held : {A : Type 0} (o : Op) → presents o ≡ false → presents o ≡ true → A
 none-held o e p = absurd (true≢false (sym p ∙ e))

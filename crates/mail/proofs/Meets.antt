@@ -27,7 +27,8 @@ use Rattle.layout.proofs.Lengths.{messages-length}
 use Rattle.layout.proofs.Shaped.{shaped}
 use Rattle.steps.specs.Run.{Process, Held, Meets, over}
 use Rattle.steps.proofs.Meeting.{none, takes, Does, meets-settled}
-use Rattle.mail.specs.Runs.{Target, messageSlot, SendAsks, sendStop, sentBytes, sentWords, sendRun}
+use Rattle.steps.proofs.Holding.{target-of}
+use Rattle.mail.specs.Runs.{messageSlot, SendAsks, sendStop, sentBytes, sentWords, sendRun}
 use Rattle.mail.specs.Runs.{oldest, oldestBytes, receivedBytes, receivedWords, ReceiveAsks, answered, receiveStop}
 use Rattle.mail.specs.Runs.{receiveRun}
 use Rattle.mail.proofs.Boxed.{boxed-view, boxed-cells}
@@ -51,17 +52,12 @@ opened n e z =
     omega arith
 
 module _ {b l w : List ℕ} (f : WellFormed b l w) where
-  target-of : {k : ℕ} → Held l k → Target l k
-  target-of {k} h =
-      let c = shaped l (f .shape) .cap k (h .live) in
-      record { links = f .sized .links; held = h; slot = record { low = c .owner-low; high = c .owner-high } }
-
   pub send-asks : {me k : ℕ} (text : List ℕ) → Process b l me → Held l k → length text ≤ 16
       → SendAsks b l w text me k
   send-asks text m h short = record {
     sized = f .sized;
     caller = record { low = m .low; high = m .high };
-    target = target-of h;
+    target = target-of (f .shape) h;
     short = short;
   }
 
@@ -157,7 +153,7 @@ module _ {b l w : List ℕ} (f : WellFormed b l w) where
         → Meets s c me k send (sendRun b l w (c .bytes) me k (c .sum))
     unfolding takes refuses sendRun sendStop
     send-meets m h short e =
-        let T = target-of h in
+        let T = target-of (f .shape) h in
         meets-settled b l w c me k send (rw e refl) f (sendStop b l w me k (c .sum)) _ (send-stop m) (λ z.
         let u = unstopped (isProcess (masterOf l) (flagOf b) o) (ltb (cashOf w me) (c .sum)) (leb 4 (countOf b o)) z in
         let P : Process b l o = record {

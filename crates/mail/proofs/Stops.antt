@@ -12,10 +12,10 @@ use Rattle.layout.specs.Rows.{flagOf, masterOf, ownerOf}
 use Rattle.layout.specs.View.{isProcess}
 use Rattle.layout.proofs.Field.{field-in}
 use Rattle.steps.specs.Tests.{ObjectSlot}
-use Rattle.steps.specs.Run.{over}
+use Rattle.steps.specs.Run.{over, Target}
 use Rattle.steps.proofs.Meeting.{stopped, goes-on}
 use Rattle.mail.specs.Copies.{copied, Copied}
-use Rattle.mail.specs.Runs.{Target, messageSlot, textFrom, sendStop, placedWords, Placed, sendRun, Moved}
+use Rattle.mail.specs.Runs.{messageSlot, textFrom, sendStop, placedWords, Placed, sendRun, Moved}
 use Rattle.mail.proofs.Copying.{length-copied}
 
 -- ---- a message placed

@@ -14,16 +14,10 @@ use Rattle.layout.specs.Rows.{flagOf, countOf, lengthOf, textIn, masterOf, owne
 use Rattle.layout.specs.View.{isProcess}
 use Rattle.layout.specs.WellFormed.{Sized}
 use Rattle.steps.specs.Tests.{ObjectSlot}
-use Rattle.steps.specs.Run.{Held, Ran, over, settled, overlay}
+use Rattle.steps.specs.Run.{Target, Ran, over, settled, overlay}
 use Rattle.mail.specs.Copies.{copied}
 
 -- ---- slots
-
--- slot k holds a living capability, which names an object's slot
-pub record Target (l : List ℕ) (k : ℕ) : Type 0 where
-  pub links : length l ≡ Layout.LINKS
-  pub held : Held l k
-  pub slot : ObjectSlot (ownerOf l k)
 
 -- message m of object o
 abbrev pub messageSlot : ℕ → ℕ → ℕ

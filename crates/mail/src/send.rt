@@ -1,27 +1,18 @@
 // "send: 8; 9 the caller's cash is below the sum; 14 four messages in the box. The sum travels in the message; the
 // target's waiting mark clears."
 ghost use mathlib.Core.Path.{_≡_};
-ghost use Rattle.layout.specs.Rows.{ownerOf};
 ghost use Rattle.steps.specs.Run.{over};
-ghost use Rattle.mail.specs.Runs.{Target, PlaceAsks, SendAsks, Placed, sendRun};
+ghost use Rattle.mail.specs.Runs.{PlaceAsks, SendAsks, Placed, sendRun};
 use crate::copy::copy;
 use layout::CASH;
 use layout::COUNT;
 use layout::LENGTH;
-use layout::OWNER;
 use layout::SUM;
 use layout::TEXT;
 use layout::WAITING;
 use steps::objects::is_process;
+use steps::target::target;
 use values::cash::Cash;
-
-// The slot of the object that the capability in slot k is for.
-fn target(links: &[u16], k: usize) -> usize
-    requires { ⌜ Target (now links) k ⌝ }
-    ensures { λ r. ⌜ r ≡ ownerOf (now (links .entry)) k ⌝ }
-{
-    links[OWNER + k] as usize
-}
 
 // The message in slot i: its text, its length and its sum.
 fn place(bytes: &mut [u8], words: &mut [u32], text: &[u8], i: usize, sum: u32)

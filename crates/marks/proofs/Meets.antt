@@ -19,11 +19,12 @@ use Rattle.layout.specs.Rows.{flagOf, ownerOf}
 use Rattle.layout.specs.View.{isSet, view}
 use Rattle.layout.specs.WellFormed.{WellFormed}
 use Rattle.layout.proofs.Shown.{cap-object, cap-here, money-here, lock-here, cash-here, marks-here}
-use Rattle.steps.specs.Run.{Process, Held, Meets, over}
-use Rattle.marks.specs.Runs.{Target, told, processStop, suspendedRun, lockedWords, lockRun, waitRun}
+use Rattle.steps.specs.Run.{Process, Held, Meets, over, Target}
+use Rattle.marks.specs.Runs.{told, processStop, suspendedRun, lockedWords, lockRun, waitRun}
 use Rattle.marks.specs.Runs.{reviveStop, spentWords, movedWords, reviveRun, infoRun}
 use Rattle.marks.proofs.Stops.{process-data, revive-data}
-use Rattle.marks.proofs.Targets.{target-of, target-process, process-is, process-shown, stop-is, unstopped}
+use Rattle.steps.proofs.Holding.{target-of}
+use Rattle.marks.proofs.Targets.{target-process, process-is, process-shown, stop-is, unstopped}
 use Rattle.marks.proofs.Marked.{Marked, suspended-marked, waiting-marked, terminated-marked}
 use Rattle.marks.proofs.Amounts.{spent-stored, earned-stored, lock-stored}
 use Rattle.steps.proofs.Meeting.{none, takes, Does, meets-done, meets-settled}

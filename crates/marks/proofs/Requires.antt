@@ -17,9 +17,10 @@ use Rattle.layout.specs.View.{view}
 use Rattle.layout.specs.WellFormed.{WellFormed}
 use Rattle.layout.proofs.Shown.{process-is, object-shown, cash-here, set-yes}
 use Rattle.layout.proofs.Asked.{fields}
-use Rattle.steps.specs.Run.{Process, Held}
-use Rattle.marks.specs.Runs.{Target, spentWords, Affords, MarkAsks, LockAsks, ReviveAsks, InfoAsks}
-use Rattle.marks.proofs.Targets.{target-of, target-process, process-shown}
+use Rattle.steps.specs.Run.{Process, Held, Target}
+use Rattle.steps.proofs.Holding.{target-of}
+use Rattle.marks.specs.Runs.{spentWords, Affords, MarkAsks, LockAsks, ReviveAsks, InfoAsks}
+use Rattle.marks.proofs.Targets.{target-process, process-shown}
 use Rattle.marks.proofs.Amounts.{spent-stored}
 
 -- a process's cash is part of the total

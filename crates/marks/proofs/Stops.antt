@@ -17,7 +17,9 @@ use Rattle.layout.proofs.Field.{field-in}
 use Rattle.layout.proofs.Shown.{is-set}
 use Rattle.steps.specs.Run.{over}
 use Rattle.steps.proofs.Meeting.{stopped, goes-on}
-use Rattle.marks.specs.Runs.{Slot, Target, processStop, suspendedRun, lockRun}
+use Rattle.steps.specs.Tests.{ObjectSlot}
+use Rattle.steps.specs.Run.{Target}
+use Rattle.marks.specs.Runs.{processStop, suspendedRun, lockRun}
 use Rattle.marks.specs.Runs.{reviveStop, spentWords, movedWords, reviveRun, Room, Affords}
 
 -- ---- refusal 8
@@ -41,7 +43,7 @@ module _ {b l : List ℕ} {k o : ℕ} {p : Bool} (F : Found b l k o p) where
   flag-is : {t : Bool} → p ≡ t → isSet (flagOf b (ownerOf l k)) ≡ t
   flag-is e = rw (F .target) at (sym (F .process) ∙ e)
 
-  pub slot-of : Target l k → Slot o
+  pub slot-of : Target l k → ObjectSlot o
   slot-of T = rw (F .target) (T .slot)
 
   process-unmet : p ≡ true → processStop b l k ≡ 0
@@ -87,7 +89,7 @@ module _ {b l : List ℕ} {k o : ℕ} {p : Bool} (F : Found b l k o p) where
 pub record Reviving (b l w : List ℕ) (me k sum o : ℕ) (p : Bool) : Type 0 where
   pub found : Found b l k o p
   pub target : Target l k
-  pub caller : Slot me
+  pub caller : ObjectSlot me
 
 module _ {b l w : List ℕ} {me k sum o : ℕ} {p : Bool} (R : Reviving b l w me k sum o p) where
   -- with its four tests as they came out, or as they stand
@@ -129,7 +131,7 @@ module _ {b l w : List ℕ} {me k sum o : ℕ} {p : Bool} (R : Reviving b l w me
       (rw (field-in 64 Layout.CASH w me (m .low) (m .high)) enough))
 
 -- the sum is taken, and added to what that left
-module _ (w : List ℕ) (me o sum left : ℕ) (M : Slot me) (O : Slot o)
+module _ (w : List ℕ) (me o sum left : ℕ) (M : ObjectSlot me) (O : ObjectSlot o)
     (e : left ≡ getD w (Layout.CASH + me) 0 - sum) where
   spent-is : set w (Layout.CASH + me) left ≡ spentWords w me sum
   spent-is = rw (e, field-in 64 Layout.CASH w me (M .low) (M .high))

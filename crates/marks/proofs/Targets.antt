@@ -11,17 +11,10 @@ use Rattle.rules.specs.Calls.{processRefuses}
 use Rattle.rules.proofs.Tests.{by-bool}
 use Rattle.layout.specs.Rows.{flagOf, masterOf, ownerOf}
 use Rattle.layout.specs.View.{isSet, isProcess, view}
-use Rattle.layout.specs.Shape.{Shape}
 use Rattle.layout.proofs.Shown.{set-yes, is-set, process-yes, cap-object}
 use Rattle.layout.proofs.Shown as Shown
-use Rattle.layout.proofs.Shaped.{shaped}
-use Rattle.steps.specs.Run.{Process, Held}
-use Rattle.marks.specs.Runs.{Target, processStop}
-
-pub target-of : {l : List ℕ} {k : ℕ} → Shape l → Held l k → Target l k
-target-of {l} {k} s h =
-    let c = shaped l s .cap k (h .live) in
-    record { held = h; slot = record { low = c .owner-low; high = c .owner-high }; live = c .owner-lives }
+use Rattle.steps.specs.Run.{Process, Target}
+use Rattle.marks.specs.Runs.{processStop}
 
 -- a process, as the view tests it
 pub process-shown : {b l : List ℕ} {o : ℕ} → Process b l o → isProcess (masterOf l) (flagOf b) o ≡ true

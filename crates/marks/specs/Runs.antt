@@ -16,20 +16,8 @@ use Rattle.layout.specs.Rows.{flagOf, terminatedOf, masterOf, ownerOf, cashOf, 
 use Rattle.layout.specs.Rows.{moneyOf, startOf, endOf}
 use Rattle.layout.specs.View.{isSet, view}
 use Rattle.layout.specs.WellFormed.{Sized}
-use Rattle.steps.specs.Run.{Held, Ran, over, settled}
-
--- ---- slots
-
--- o is an object's slot
-pub record Slot (o : ℕ) : Type 0 where
-  pub low : 1 ≤ o
-  pub high : o ≤ 64
-
--- slot k holds a living capability, and the slot that it names a living object
-pub record Target (l : List ℕ) (k : ℕ) : Type 0 where
-  pub held : Held l k
-  pub slot : Slot (ownerOf l k)
-  pub live : masterOf l (ownerOf l k) ≢ 0
+use Rattle.steps.specs.Tests.{ObjectSlot}
+use Rattle.steps.specs.Run.{Target, Ran, over, settled}
 
 -- ---- runs
 
@@ -114,7 +102,7 @@ Affords b l w me k sum = flagOf b (ownerOf l k) ≢ 0 → sum ≤ cashOf w me �
 
 pub record ReviveAsks (b l w : List ℕ) (me k sum : ℕ) : Type 0 where
   pub sized : Sized b l w
-  pub caller : Slot me
+  pub caller : ObjectSlot me
   pub target : Target l k
   pub affords : Affords b l w me k sum
 

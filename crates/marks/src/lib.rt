@@ -3,5 +3,5 @@
 pub mod info;
 pub mod lock;
 pub mod mark;
+pub mod process;
 pub mod revive;
-pub mod target;

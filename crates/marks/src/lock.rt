@@ -3,10 +3,10 @@ ghost use mathlib.Core.Path.{_≡_};
 ghost use Rattle.values.specs.Words.{lockwordOf};
 ghost use Rattle.steps.specs.Run.{over};
 ghost use Rattle.marks.specs.Runs.{LockAsks, lockRun};
-use crate::target::is_process;
-use crate::target::target;
+use crate::process::is_process;
 use layout::LOCK1;
 use layout::LOCK2;
+use steps::target::target;
 use values::password::xor_words;
 
 // The lockword of the object that capability k is for.

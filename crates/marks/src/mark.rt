@@ -6,10 +6,10 @@ ghost use lib.ListN.{length};
 ghost use Rattle.layout.specs.Layout as Layout;
 ghost use Rattle.steps.specs.Run.{over};
 ghost use Rattle.marks.specs.Runs.{MarkAsks, suspendedRun, waitRun};
-use crate::target::is_process;
-use crate::target::target;
+use crate::process::is_process;
 use layout::SUSPENDED;
 use layout::WAITING;
+use steps::target::target;
 
 // The suspended mark of the object that capability k is for, 1 set or 0 clear.
 fn set_suspended(bytes: &mut [u8], links: &[u16], k: usize, mark: u8) -> u32

@@ -4,16 +4,17 @@ ghost use mathlib.Core.Path.{_≡_};
 ghost use lib.ListN.{length};
 ghost use Rattle.layout.specs.Layout as Layout;
 ghost use Rattle.steps.specs.Run.{over};
-ghost use Rattle.marks.specs.Runs.{Slot, Room, ReviveAsks, movedWords, reviveRun};
-use crate::target::is_process;
-use crate::target::target;
+ghost use Rattle.steps.specs.Tests.{ObjectSlot};
+ghost use Rattle.marks.specs.Runs.{Room, ReviveAsks, movedWords, reviveRun};
+use crate::process::is_process;
 use layout::CASH;
 use layout::TERMINATED;
+use steps::target::target;
 use values::cash::Cash;
 
 // The sum moves from the cash at slot me to that at slot o: first taken, then added to what that left.
 fn move_cash(words: &mut [u32], me: usize, o: usize, sum: u32)
-    requires { ⌜ length (now words) ≡ Layout.WORDS ⌝ ∗ ⌜ Slot me ⌝ ∗ ⌜ Slot o ⌝ ∗ ⌜ Room (now words) me o sum ⌝ }
+    requires { ⌜ length (now words) ≡ Layout.WORDS ⌝ ∗ ⌜ ObjectSlot me ⌝ ∗ ⌜ ObjectSlot o ⌝ ∗ ⌜ Room (now words) me o sum ⌝ }
     ensures { λ _. ⌜ now (words .exit) ≡ movedWords (now (words .entry)) me o sum ⌝ }
 {
     let left = Cash(words[CASH + me]).less(sum);

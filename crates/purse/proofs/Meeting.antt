@@ -2,64 +2,42 @@
 use Prim.Native.Nat.{ℕ, _+_, _-_}
 use mathlib.Core.Path.{_≡_, sym, ap, _∙_, subst}
 use mathlib.Core.List.{List, [], _∷_}
-use lib.Dec.{ltb, eqb}
+use lib.Dec.{ltb}
 use lib.ListN.{length, set}
-use borrow.Author.Tests.{eq-eqb, ne-eqb}
 use Rattle.rules.specs.Slots.{at}
 use Rattle.rules.specs.Rights.{Op, op, withdraw, deposit}
-use Rattle.rules.specs.Call.{Call, code, done}
+use Rattle.rules.specs.Call.{Call, done}
 use Rattle.rules.specs.Refusals.{_when_, first}
 use Rattle.rules.specs.Update.{withCash, withMoney}
 use Rattle.rules.specs.Changes.{earn, spend, onClimb}
 use Rattle.rules.specs.Calls.{withdrawRefuses, withdrawDoes, depositRefuses, depositDoes, refuses, does}
-use Rattle.rules.specs.Demand.{Open}
-use Rattle.rules.proofs.Tests.{by-eq, pick-yes, pick-not}
 use Rattle.layout.specs.Layout as Layout
 use Rattle.layout.specs.Rows.{parentOf, cashOf}
 use Rattle.layout.specs.View.{view}
 use Rattle.layout.specs.WellFormed.{WellFormed}
-use Rattle.steps.specs.Run.{Process, Held, outcome, own, Meets}
-use Rattle.steps.proofs.Meeting.{none, takes, open-none}
+use Rattle.steps.specs.Run.{Process, Held, over, Meets}
+use Rattle.steps.proofs.Meeting.{none, takes, Does, meets-settled}
 use Rattle.purse.specs.declared.way.Way.{Way}
 use Rattle.purse.specs.declared.way.Way.the-variants.{Out, Into}
 use Rattle.purse.specs.Climb.{climbOf, stops, moves, climbMoved}
-use Rattle.purse.specs.Calls.{left, ranWith, withdrawCode, withdrawn, withdrawRun}
+use Rattle.purse.specs.Calls.{withdrawCode, withdrawn, withdrawRun}
 use Rattle.purse.specs.Calls.{depositCode, deposited, depositRun}
-use Rattle.purse.proofs.Settling.{left-refused, left-done}
 use Rattle.purse.proofs.Storing.{Changed, changed}
 use Rattle.purse.proofs.Reaching.{cash-is, climb-chain, stops-is}
 use Rattle.purse.proofs.Shifting.{view-after}
 
--- ---- a call that takes no free slot and changes only the words: n is its code, after the words of a done one
+-- ---- a call that changes only the words: after are those of a done one
 
-module _ (b l w : List ℕ) (g : WellFormed b l w) (c : Call) (me k : ℕ) (o : Op) (n : ℕ) (after : List ℕ) where
-  own-is : first (refuses (view b l w) c me k o) ≡ n → does (view b l w) c me k none o ≡ done (view b l after)
-      → own (view b l w) c me k none o ≡ outcome (ranWith n b l w after)
-  unfolding own ranWith done
-  own-is refused made = by-eq n 0
-      (λ z. pick-yes (eqb (first (refuses (view b l w) c me k o)) 0) (does (view b l w) c me k none o) _
-      (eq-eqb _ 0 (refused ∙ z)) ∙ made
-      ∙ (λ d. record { answer = code (sym z d); after = view b l (sym (left-done n w after z) d) }))
-      (λ h. pick-not (eqb (first (refuses (view b l w) c me k o)) 0) (does (view b l w) c me k none o) _
-      (ne-eqb _ 0 (λ z. h (sym refused ∙ z)))
-      ∙ (λ d. record { answer = code (refused d); after = view b l (sym (left-refused n w after h) d) }))
-
-  left-long : length after ≡ length w → length (left n w after) ≡ Layout.WORDS
-  left-long e = by-eq n 0
-      (λ z. rw (left-done n w after z) (e ∙ g .sized .words))
-      (λ h. rw (left-refused n w after h) (g .sized .words))
-
-  meets-words : first (refuses (view b l w) c me k o) ≡ n → does (view b l w) c me k none o ≡ done (view b l after)
-      → length after ≡ length w → Open (view b l w) c none → Meets (view b l w) c me k o (ranWith n b l w after)
-  unfolding ranWith
-  meets-words refused made long none-taken = record {
-    choice = none;
-    free = λ _. none-taken;
-    rules = own-is refused made;
-    sized = record { bytes = g .sized .bytes; links = g .sized .links; words = left-long long };
-    cells = g .cells;
-    shape = g .shape;
-  }
+does-words : (b l w : List ℕ) → WellFormed b l w → (c : Call) (me k : ℕ) (o : Op) (after : List ℕ)
+    → does (view b l w) c me k none o ≡ done (view b l after) → length after ≡ length w
+    → Does (view b l w) c me k o (over 0 b l after)
+unfolding over done
+does-words b l w g c me k o after made long = record {
+  rules = made;
+  sized = record { bytes = g .sized .bytes; links = g .sized .links; words = long ∙ g .sized .words };
+  cells = g .cells;
+  shape = g .shape;
+}
 
 -- ---- the two calls
 
@@ -100,14 +78,14 @@ module _ (b l w : List ℕ) (g : WellFormed b l w) (me k : ℕ) (caller : Proces
 
   pub withdraw-meets : (c : Call) (sum : ℕ) → op (c .number) ≡ withdraw → c .sum ≡ sum
       → Meets (view b l w) c me k withdraw (withdrawRun b l w me k sum)
-  unfolding withdrawn takes
+  unfolding withdrawRun withdrawn takes
   withdraw-meets c sum call e = subst (λ x. Meets (view b l w) c me k withdraw (withdrawRun b l w me k x)) e
-      (meets-words b l w g c me k withdraw _ _ (withdraw-refuses c) (withdraw-does c)
-      (changed-by Out (c .sum) (cashOf w me + c .sum) .long) (open-none (view b l w) c (ap takes call)))
+      (meets-settled b l w c me k withdraw (ap takes call) g _ _ (sym (withdraw-refuses c)) (λ z.
+      does-words b l w g c me k withdraw _ (withdraw-does c) (changed-by Out (c .sum) (cashOf w me + c .sum) .long)))
 
   pub deposit-meets : (c : Call) (sum : ℕ) → op (c .number) ≡ deposit → c .sum ≡ sum
       → Meets (view b l w) c me k deposit (depositRun b l w me k sum)
-  unfolding deposited takes
+  unfolding depositRun deposited takes
   deposit-meets c sum call e = subst (λ x. Meets (view b l w) c me k deposit (depositRun b l w me k x)) e
-      (meets-words b l w g c me k deposit _ _ (deposit-refuses c) (deposit-does c)
-      (changed-by Into (c .sum) (cashOf w me - c .sum) .long) (open-none (view b l w) c (ap takes call)))
+      (meets-settled b l w c me k deposit (ap takes call) g _ _ (sym (deposit-refuses c)) (λ z.
+      does-words b l w g c me k deposit _ (deposit-does c) (changed-by Into (c .sum) (cashOf w me - c .sum) .long)))

@@ -1,34 +1,27 @@
--- What a call's tests make of its code, and its code of the words at exit.
+-- What a call's tests make of its code, and its code of its run.
 use Prim.Native.Nat.{ℕ}
-use mathlib.Core.Path.{_≡_, sym, _∙_}
+use mathlib.Core.Path.{_≡_, ap, _∙_}
 use mathlib.Core.Logic.{_≢_}
 use mathlib.Core.Bool.{true, false}
 use mathlib.Core.List.{List}
 use lib.Dec.{ltb}
-use borrow.Author.Tests.{eq-eqb, ne-eqb}
 use Rattle.rules.specs.Refusals.{_when_, first}
 use Rattle.layout.specs.Rows.{cashOf}
 use Rattle.purse.specs.declared.way.Way.the-variants.{Out, Into}
 use Rattle.purse.specs.Climb.{climbStops}
-use Rattle.purse.specs.Calls.{left, Settled, withdrawCode, depositCode}
+use Rattle.steps.specs.Run.{over, settled}
+use Rattle.steps.proofs.Meeting.{stopped, goes-on}
+use Rattle.purse.specs.Calls.{withdrawCode, depositCode}
 
--- ---- the words at exit
+-- ---- the run, where the words alone change: n is the code, after the words of a done call
 
-pub left-refused : (n : ℕ) (w after : List ℕ) → n ≢ 0 → left n w after ≡ w
-unfolding left
-left-refused n w after h = rw (ne-eqb n 0 h, left)
+module _ {n : ℕ} (l w after : List ℕ) where
+  pub refused : (m : ℕ) → n ≡ m → m ≢ 0 → (b : List ℕ) → over m b l w ≡ settled n b l w (over 0 b l after)
+  refused m e nz b = stopped b l w (over 0 b l after) m e nz
 
-pub left-done : (n : ℕ) (w after : List ℕ) → n ≡ 0 → left n w after ≡ after
-unfolding left
-left-done n w after h = rw (eq-eqb n 0 h, left)
-
-pub refused : {n code : ℕ} {w after : List ℕ} → code ≡ n → n ≢ 0 → Settled code w after n w
-refused {n} {code} {w} {after} e h =
-    record { answer-is = sym e; words-are = sym (left-refused code w after (λ z. h (sym e ∙ z))) }
-
-pub settled : {code : ℕ} {w after exit : List ℕ} → code ≡ 0 → exit ≡ after → Settled code w after 0 exit
-settled {code} {w} {after} e h =
-    record { answer-is = sym e; words-are = h ∙ sym (left-done code w after e) }
+  pub done-with : (exit : List ℕ) → exit ≡ after → n ≡ 0 → (b : List ℕ)
+      → over 0 b l exit ≡ settled n b l w (over 0 b l after)
+  done-with exit e z b = ap (over 0 b l) e ∙ goes-on b l w (over 0 b l after) z
 
 -- ---- the codes
 

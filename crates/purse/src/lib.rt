@@ -1,11 +1,13 @@
 // 01's withdraw and deposit after the fee, with the capability found: the two calls that turn moneywords into cash and
 // cash into moneywords.
 ghost use mathlib.Core.Path.{_≡_};
-ghost use Prim.Native.Nat.{_≤_};
+ghost use mathlib.Core.List.{List};
+ghost use Prim.Native.Nat.{ℕ, _≤_};
 ghost use lib.ListN.{length};
 ghost use Rattle.layout.specs.Layout as Layout;
 ghost use Rattle.layout.specs.Rows.{cashOf};
-ghost use Rattle.purse.specs.Calls.{Payable, Withdrawable, Withdraws, Deposits};
+ghost use Rattle.steps.specs.Run.{over};
+ghost use Rattle.purse.specs.Calls.{Payable, Withdrawable, withdrawRun, depositRun};
 
 mod climb;
 mod way;
@@ -19,7 +21,8 @@ use way::Way;
 // Takes the sum from each moneyword on the climb from k and adds it once to the caller's cash; 9 where one is below it.
 pub fn withdraw(links: &[u16], words: &mut [u32], me: usize, k: usize, sum: u32) -> u32
     requires { ⌜ Withdrawable (now links) (now words) me k sum ⌝ }
-    ensures { λ r. ⌜ Withdraws (now (links .entry)) (now (words .entry)) me k sum r (now (words .exit)) ⌝ }
+    ensures { λ r. ⌜ ((b : List ℕ) → over r b (now (links .entry)) (now (words .exit))
+        ≡ withdrawRun b (now (links .entry)) (now (words .entry)) me k sum) ⌝ }
 {
     if climb_stops(Way::Out, links, words, k, sum) {
         return 9;
@@ -34,7 +37,8 @@ pub fn withdraw(links: &[u16], words: &mut [u32], me: usize, k: usize, sum: u32)
 // 10 where a moneyword would pass 4,294,967,295.
 pub fn deposit(links: &[u16], words: &mut [u32], me: usize, k: usize, sum: u32) -> u32
     requires { ⌜ Payable (now links) (now words) me k ⌝ }
-    ensures { λ r. ⌜ Deposits (now (links .entry)) (now (words .entry)) me k sum r (now (words .exit)) ⌝ }
+    ensures { λ r. ⌜ ((b : List ℕ) → over r b (now (links .entry)) (now (words .exit))
+        ≡ depositRun b (now (links .entry)) (now (words .entry)) me k sum) ⌝ }
 {
     let cash = cash_of(words, me);
     if cash.below(sum) {

@@ -18,11 +18,12 @@ use Rattle.rules.proofs.Presenting.{named, not-named, shown}
 use Rattle.layout.specs.Layout as Layout
 use Rattle.layout.specs.Rows.{field, ownerOf, masterOf, flagOf}
 use Rattle.layout.specs.View.{view}
+use Rattle.layout.specs.Shape.{Shape}
 use Rattle.layout.specs.WellFormed.{WellFormed}
 use Rattle.layout.proofs.Field.{field-in, field-low, field-high}
 use Rattle.layout.proofs.Shaped.{shaped}
 use Rattle.layout.proofs.Shown.{process-yes, lock-here, cap-here, cap-object, cap-lives}
-use Rattle.steps.specs.Run.{Process, Held}
+use Rattle.steps.specs.Run.{Process, Held, Target}
 use Rattle.steps.specs.Tests.{CapSlot, held}
 use Rattle.steps.proofs.Callers.{found-live}
 
@@ -91,28 +92,20 @@ module _ (s : State) (G : Formed s) (me : ℕ) (x : Capability) where
 
 -- ---- what is presented is held
 
--- slot k holds a capability, and its object lives
-pub record HeldOf (l : List ℕ) (k : ℕ) : Type 0 where
-  pub held : Held l k
-  pub low : 1 ≤ ownerOf l k
-  pub high : ownerOf l k ≤ 64
-  pub live : masterOf l (ownerOf l k) ≢ 0
+pub target-of : {l : List ℕ} {k : ℕ} → Shape l → Held l k → Target l k
+target-of {l} {k} s h =
+    let c = shaped l s .cap k (h .live) in
+    record { held = h; slot = record { low = c .owner-low; high = c .owner-high }; live = c .owner-lives }
 
 pub presented-held : (b l w : List ℕ) → WellFormed b l w → (me : ℕ) (x : Capability)
-    → presented (view b l w) me x ≢ 0 → HeldOf l (presented (view b l w) me x)
+    → presented (view b l w) me x ≢ 0 → Held l (presented (view b l w) me x)
 presented-held b l w W me x h =
     let k : ℕ = presented (view b l w) me x in
     let alive : ownerOf l k ≢ 0 = cap-lives b l w k (shown (view b l w) me x h .lives) in
-    let f = shaped l (W .shape) .cap k alive in
     record {
-      held = record {
-        low = field-low 512 Layout.OWNER l k alive;
-        high = field-high 512 Layout.OWNER l k alive;
-        live = alive;
-      };
-      low = f .owner-low;
-      high = f .owner-high;
-      live = f .owner-lives;
+      low = field-low 512 Layout.OWNER l k alive;
+      high = field-high 512 Layout.OWNER l k alive;
+      live = alive;
     }
 
 -- ---- the lockword of a process, and the rights of a capability

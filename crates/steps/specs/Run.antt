@@ -16,6 +16,7 @@ use Rattle.layout.specs.Rows.{flagOf, masterOf, ownerOf}
 use Rattle.layout.specs.View.{view}
 use Rattle.layout.specs.Shape.{Shape}
 use Rattle.layout.specs.WellFormed.{Sized, Cells}
+use Rattle.steps.specs.Tests.{ObjectSlot}
 
 -- slot me holds a living process
 pub record Process (b l : List ℕ) (me : ℕ) : Type 0 where
@@ -29,6 +30,12 @@ pub record Held (l : List ℕ) (k : ℕ) : Type 0 where
   pub low : 1 ≤ k
   pub high : k ≤ 512
   pub live : ownerOf l k ≢ 0
+
+-- slot k holds a living capability, and the slot that it names a living object
+pub record Target (l : List ℕ) (k : ℕ) : Type 0 where
+  pub held : Held l k
+  pub slot : ObjectSlot (ownerOf l k)
+  pub live : masterOf l (ownerOf l k) ≢ 0
 
 -- a call that is over: its answer, and the store's slices
 pub record Ran : Type 0 where

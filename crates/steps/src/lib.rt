@@ -5,4 +5,5 @@ pub mod present;
 pub mod ranges;
 pub mod request;
 pub mod taken;
+pub mod target;
 pub mod widen;

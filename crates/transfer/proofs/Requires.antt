@@ -15,6 +15,7 @@ use Rattle.layout.proofs.Field.{field-low}
 use Rattle.layout.proofs.Shaped.{Shaped, shaped}
 use Rattle.layout.proofs.Asked.{fields}
 use Rattle.steps.specs.Run.{Held}
+use Rattle.steps.proofs.Holding as Holding
 use Rattle.transfer.specs.Runs.{Target, ReadAsks, WriteAsks}
 
 -- along the climb, each window ends within the one above, and the master's at the size
@@ -35,7 +36,7 @@ module _ {b l w : List ℕ} {k : ℕ} (f : WellFormed b l w) (h : Held l k) wher
       let s = shaped l (f .shape) in
       let c = s .cap k (h .live) in
       record {
-        owned = record { held = h; low = c .owner-low; high = c .owner-high };
+        owned = Holding.target-of (f .shape) h;
         chain = s .object (ownerOf l k) (c .owner-lives) .chain;
         fits = end-fits (fields f) s (c .ends .1) (h .live);
         size = fields f .objects (ownerOf l k) (c .owner-lives) .size;

@@ -14,7 +14,8 @@ use Rattle.layout.specs.Rows.{sizeOf, firstBlockOf, ownerOf, nextBlockOf, start
 use Rattle.layout.specs.View.{gather, view}
 use Rattle.layout.specs.Shape.{Chain}
 use Rattle.layout.specs.WellFormed.{Sized}
-use Rattle.steps.specs.Run.{Held, Ran, over, settled, overlay}
+use Rattle.steps.specs.Run as Run
+use Rattle.steps.specs.Run.{Ran, over, settled, overlay}
 
 -- ---- places
 
@@ -91,15 +92,9 @@ writeRun b l w k start end source = settled (inside w k start end) b l w
 
 -- ---- what the code asks
 
--- slot k holds a living capability, and names an object's slot
-pub record Owned (l : List ℕ) (k : ℕ) : Type 0 where
-  pub held : Held l k
-  pub low : 1 ≤ ownerOf l k
-  pub high : ownerOf l k ≤ 64
-
--- the blocks of that object are there, and hold the window
+-- capability k lives and names a living object, whose blocks are there and hold the window
 pub record Target (l w : List ℕ) (k : ℕ) : Type 0 where
-  pub owned : Owned l k
+  pub owned : Run.Target l k
   pub chain : (xs : List ℕ) × Chain 512 (nextBlockOf l) (firstBlockOf l (ownerOf l k)) xs
       × (length xs ≡ blocks (sizeOf l (ownerOf l k)))
   pub fits : endOf w k ≤ sizeOf l (ownerOf l k)

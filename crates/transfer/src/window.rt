@@ -5,7 +5,8 @@ ghost use lib.ListN.{length};
 ghost use Rattle.rules.specs.Calls.{liesIn};
 ghost use Rattle.layout.specs.Layout as Layout;
 ghost use Rattle.layout.specs.Rows.{ownerOf, firstBlockOf};
-ghost use Rattle.transfer.specs.Runs.{Owned, range, window};
+ghost use Rattle.steps.specs.Run.{Target};
+ghost use Rattle.transfer.specs.Runs.{range, window};
 use layout::END;
 use layout::FIRST_BLOCK;
 use layout::OWNER;
@@ -31,7 +32,7 @@ pub fn in_window(words: &[u32], k: usize, start: u32, end: u32) -> bool
 
 // The first block of the object that the capability in slot k is for.
 pub fn first_block(links: &[u16], k: usize) -> usize
-    requires { ⌜ (length (now links) ≡ Layout.LINKS) × Owned (now links) k ⌝ }
+    requires { ⌜ (length (now links) ≡ Layout.LINKS) × Target (now links) k ⌝ }
     ensures { λ r. ⌜ r ≡ firstBlockOf (now (links .entry)) (ownerOf (now (links .entry)) k) ⌝ }
 {
     let o = links[OWNER + k] as usize;

@@ -8,8 +8,8 @@ use borrow.Author.Needs.{needs}
 use Rattle.layout.specs.Rows.{cashOf}
 use Rattle.purse.specs.declared.way.Way.the-variants.{Into}
 use Rattle.purse.specs.Climb.{climbStops}
-use Rattle.purse.specs.Calls.{deposited}
-use Rattle.purse.proofs.Settling.{refused, settled, deposit-short, deposit-full, deposit-free}
+use Rattle.purse.specs.Calls.{deposited, depositRun}
+use Rattle.purse.proofs.Settling.{refused, done-with, deposit-short, deposit-full, deposit-free}
 use Rattle.purse.proofs.deposit.Statement.{statement}
 use Rattle.purse.proofs.deposit.Tie as tie
 use Rattle.purse.proofs.deposit.Reads as reads
@@ -76,9 +76,11 @@ same-length : tie.Need-same-length
 same-length c = search needs
 
 returns : tie.Need-returns
+unfolding depositRun
 returns c =
     let at = start (c .before) .args in
-    refused (deposit-short (at .links .now) (at .words .now) (at .me) (at .k) (at .sum)
+    refused (at .links .now) (at .words .now) (deposited (at .links .now) (at .words .now) (at .me) (at .k) (at .sum)) 9
+    (deposit-short (at .links .now) (at .words .now) (at .me) (at .k) (at .sum)
     (sym (tested (c .before)) ∙ c .if1 .taken)) (omega arith)
 
 climb-stops-requires : tie.Need-climb-stops-requires
@@ -88,9 +90,11 @@ same-length-2 : tie.Need-same-length-2
 same-length-2 c = search needs
 
 returns-2 : tie.Need-returns-2
+unfolding depositRun
 returns-2 c =
     let at = start (first (c .before)) .args in
-    refused (deposit-full (at .links .now) (at .words .now) (at .me) (at .k) (at .sum)
+    refused (at .links .now) (at .words .now) (deposited (at .links .now) (at .words .now) (at .me) (at .k) (at .sum)) 10
+    (deposit-full (at .links .now) (at .words .now) (at .me) (at .k) (at .sum)
     (enough (c .before .before .before)) (sym (climbed (c .before)) ∙ c .if2 .taken)) (omega arith)
 
 climb-moves-requires : tie.Need-climb-moves-requires
@@ -112,15 +116,17 @@ same-length-3 : tie.Need-same-length-3
 same-length-3 c = search needs
 
 returns-3 : tie.Need-returns-3
-unfolding deposited
+unfolding depositRun deposited
 returns-3 c =
     let call = c .before .before .before in
     let past = call .before .before in
     let test = first (past .before) in
     let at = start test .args in
     let cash = rw (test .before .cash-of .ensures) at (c .less .ensures) in
-    settled (deposit-free (at .links .now) (at .words .now) (at .me) (at .k) (at .sum)
-    (enough (past .before .before .before)) (free past)) (rw (call .climb-moves .ensures, cash))
+    done-with (at .links .now) (at .words .now) (deposited (at .links .now) (at .words .now) (at .me) (at .k) (at .sum)) _
+    (rw (call .climb-moves .ensures, cash))
+    (deposit-free (at .links .now) (at .words .now) (at .me) (at .k) (at .sum)
+    (enough (past .before .before .before)) (free past))
 
 pub deposit-spec : {M : Type 1} → statement M
 deposit-spec = tie.close (tie.spec cash-of-requires below-requires same-length returns climb-stops-requires

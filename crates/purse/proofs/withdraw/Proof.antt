@@ -5,8 +5,8 @@ use native.Mathlib.Omega.{arith}
 use borrow.Author.Needs.{needs}
 use Rattle.purse.specs.declared.way.Way.the-variants.{Out}
 use Rattle.purse.specs.Climb.{climbStops}
-use Rattle.purse.specs.Calls.{withdrawn}
-use Rattle.purse.proofs.Settling.{refused, settled, withdraw-short, withdraw-free}
+use Rattle.purse.specs.Calls.{withdrawn, withdrawRun}
+use Rattle.purse.proofs.Settling.{refused, done-with, withdraw-short, withdraw-free}
 use Rattle.purse.proofs.withdraw.Statement.{statement}
 use Rattle.purse.proofs.withdraw.Tie as tie
 use Rattle.purse.proofs.withdraw.Reads as reads
@@ -48,10 +48,12 @@ same-length : tie.Need-same-length
 same-length c = search needs
 
 returns : tie.Need-returns
+unfolding withdrawRun
 returns c =
     let at = start (c .before) .args in
-    refused (withdraw-short (at .links .now) (at .words .now) (at .k) (at .sum)
-    (sym (tested (c .before)) ∙ c .if1 .taken)) (omega arith)
+    refused (at .links .now) (at .words .now) (withdrawn (at .links .now) (at .words .now) (at .me) (at .k) (at .sum)) 9
+    (withdraw-short (at .links .now) (at .words .now) (at .k) (at .sum) (sym (tested (c .before)) ∙ c .if1 .taken))
+    (omega arith)
 
 cash-of-requires : tie.Need-cash-of-requires
 cash-of-requires c κs = search needs
@@ -80,14 +82,15 @@ same-length-2 : tie.Need-same-length-2
 same-length-2 c = search needs
 
 returns-2 : tie.Need-returns-2
-unfolding withdrawn
+unfolding withdrawRun withdrawn
 returns-2 c =
     let call = c .before .before .before in
     let read = call .before .before in
     let past = read .before .before in
     let at = start (past .before) .args in
-    settled (withdraw-free (at .links .now) (at .words .now) (at .k) (at .sum) (free past))
+    done-with (at .links .now) (at .words .now) (withdrawn (at .links .now) (at .words .now) (at .me) (at .k) (at .sum)) _
     (rw (call .climb-moves .ensures, read .cash-of .ensures))
+    (withdraw-free (at .links .now) (at .words .now) (at .k) (at .sum) (free past))
 
 pub withdraw-spec : {M : Type 1} → statement M
 withdraw-spec = tie.close (tie.spec climb-stops-requires same-length returns cash-of-requires climb-moves-requires

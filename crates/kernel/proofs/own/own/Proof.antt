@@ -11,7 +11,7 @@ use Rattle.kernel.proofs.Asked.{no-other, make-asked, read-asked, write
 use Rattle.kernel.proofs.Asked.{delete-asked, rename-asked, withdraw-asked, deposit-asked, suspend-asked}
 use Rattle.kernel.proofs.Asked.{resume-asked, lock-asked, send-asked, receive-asked, revive-asked}
 use Rattle.kernel.proofs.Replying.{arm-code, arm-done, arm-more, arm-reply, arm-cleared, deleted-code}
-use Rattle.kernel.proofs.Replying.{settled-over, read-store}
+use Rattle.kernel.proofs.Replying.{read-store}
 use Rattle.kernel.proofs.own.own.Statement.{statement}
 use Rattle.kernel.proofs.own.own.Tie as tie
 
@@ -304,7 +304,7 @@ returns-8 c =
     let m = c .before .before .before .before .before .before in
     let a = start (m .before) in
     arm-code (a .args .req) (a .args .text .now) (a .args .me) (a .args .k) (was a) 8 (m .match .keys8) refl
-    (c .refused3 .ensures) (settled-over (a .args .bytes .now) (a .args .links .now) (c .before .before .before .withdraw .ensures)) refl refl
+    (c .refused3 .ensures) (c .before .before .before .withdraw .ensures (a .args .bytes .now)) refl refl
 
 same-length-25 : tie.Need-same-length-25
 same-length-25 c = search needs
@@ -318,7 +318,7 @@ returns-9 c =
     let m = c .before .before .before .before .before .before in
     let a = start (m .before) in
     arm-code (a .args .req) (a .args .text .now) (a .args .me) (a .args .k) (was a) 9 (m .match .keys9) refl
-    (c .refused4 .ensures) (settled-over (a .args .bytes .now) (a .args .links .now) (c .before .before .before .deposit .ensures)) refl refl
+    (c .refused4 .ensures) (c .before .before .before .deposit .ensures (a .args .bytes .now)) refl refl
 
 same-length-27 : tie.Need-same-length-27
 same-length-27 c = search needs

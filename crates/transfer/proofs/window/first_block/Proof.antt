@@ -29,13 +29,13 @@ cast-o : tie.Need-cast-o
 cast-o c = omega (arith, c .shared-slice-known .given (Layout.OWNER + c .before .args .k))
 
 add-result : tie.Need-add-result
-add-result c = omega (arith, owner-is (c .before), c .before .pre .1 .high)
+add-result c = omega (arith, owner-is (c .before), c .before .pre .1 .slot .high)
 
 mul-result : tie.Need-mul-result
-mul-result c = omega (arith, owner-is (c .before), c .before .pre .1 .high)
+mul-result c = omega (arith, owner-is (c .before), c .before .pre .1 .slot .high)
 
 shared-slice-read-result : tie.Need-shared-slice-read-result
-shared-slice-read-result c = omega (arith, owner-is (c .before .before), c .before .before .pre .1 .high)
+shared-slice-read-result c = omega (arith, owner-is (c .before .before), c .before .before .pre .1 .slot .high)
 
 cast-result : tie.Need-cast-result
 cast-result c = omega (
@@ -49,7 +49,7 @@ returns c =
     let a = c .before .before .args in
     let h = c .before .before .pre .1 in
     rw (owner-is (c .before .before))
-    (sym (field-in 64 Layout.«FIRST_BLOCK» (a .links .now) (ownerOf (a .links .now) (a .k)) (h .low) (h .high)))
+    (sym (field-in 64 Layout.«FIRST_BLOCK» (a .links .now) (ownerOf (a .links .now) (a .k)) (h .slot .low) (h .slot .high)))
 
 pub first-block-spec : {M : Type 1} → statement M
 first-block-spec =

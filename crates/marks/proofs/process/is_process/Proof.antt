@@ -4,8 +4,8 @@ use borrow.Author.Needs.{needs}
 use Rattle.layout.specs.Layout as Layout
 use Rattle.layout.specs.View.{isSet}
 use Rattle.layout.proofs.Field.{field-in}
-use Rattle.marks.proofs.target.is_process.Statement.{statement}
-use Rattle.marks.proofs.target.is_process.Tie as tie
+use Rattle.marks.proofs.process.is_process.Statement.{statement}
+use Rattle.marks.proofs.process.is_process.Tie as tie
 
 add-result : tie.Need-add-result
 add-result c = search needs

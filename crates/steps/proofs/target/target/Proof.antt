@@ -5,8 +5,8 @@ use native.Mathlib.Omega.{arith}
 use borrow.Author.Needs.{needs}
 use Rattle.layout.specs.Layout as Layout
 use Rattle.layout.proofs.Field.{field-in}
-use Rattle.marks.proofs.target.target.Statement.{statement}
-use Rattle.marks.proofs.target.target.Tie as tie
+use Rattle.steps.proofs.target.target.Statement.{statement}
+use Rattle.steps.proofs.target.target.Tie as tie
 
 add-result : tie.Need-add-result
 add-result c = search needs
