@@ -1,0 +1,62 @@
+// The last slot with a p1, looked up in groups of 16 slots: a group is taken slot by slot only where one of it has the p1.
+ghost use mathlib.Core.Path.{_≡_};
+ghost use mathlib.Core.Bool.{_||_};
+ghost use Prim.Native.Nat.{ℕ, _+_, _≤_};
+ghost use lib.ListN.{length};
+ghost use Rattle.rules.specs.Slots.{find, some};
+ghost use Rattle.layout.specs.Layout;
+ghost use Rattle.steps.specs.Tests.{p1At, SameFrom};
+use layout::P1;
+
+// One of both holds: a function, so that no arms meet in a loop's body.
+fn either(a: bool, b: bool) -> bool
+    ensures { λ r. ⌜ r ≡ (a || b) ⌝ }
+{
+    a | b
+}
+
+// Some slot of base + 1 to base + 16 has this p1. The loop leaves only at its end, so that the compiler can take many
+// slots at once.
+fn any_p1(words: &[u32], base: usize, p1: u32) -> bool
+    requires { ⌜ length (now words) ≡ Layout.WORDS ⌝ ∗ ⌜ base + 16 ≤ 512 ⌝ }
+    ensures { λ r. ⌜ r ≡ some 16 (λ j. p1At (now (words .entry)) p1 (base + j)) ⌝ }
+{
+    let mut any = false;
+    let mut j: usize = 0;
+    while j < 16 {
+        j += 1;
+        let k = base + j;
+        any = either(any, words[P1 + k] == p1);
+    }
+    any
+}
+
+// A slot from which the same is found as from slot n: groups of which no slot has this p1 are passed over.
+fn skip_groups(words: &[u32], n: usize, p1: u32) -> usize
+    requires { ⌜ length (now words) ≡ Layout.WORDS ⌝ ∗ ⌜ n ≤ 512 ⌝ }
+    ensures { λ r. ⌜ SameFrom (p1At (now (words .entry)) p1) n r ⌝ }
+{
+    let mut i = n;
+    while 16 <= i {
+        if any_p1(words, i - 16, p1) {
+            return i;
+        }
+        i -= 16;
+    }
+    i
+}
+
+// The last slot of 1 to n with this p1, 0 if there is none.
+pub fn last_p1(words: &[u32], n: usize, p1: u32) -> usize
+    requires { ⌜ length (now words) ≡ Layout.WORDS ⌝ ∗ ⌜ n ≤ 512 ⌝ }
+    ensures { λ r. ⌜ r ≡ find n (p1At (now (words .entry)) p1) ⌝ }
+{
+    let mut i = skip_groups(words, n, p1);
+    while 0 < i {
+        if words[P1 + i] == p1 {
+            return i;
+        }
+        i -= 1;
+    }
+    0
+}
