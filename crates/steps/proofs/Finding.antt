@@ -1,13 +1,17 @@
 -- The search from the last slot down, step by step: a loop that counts down is `find` itself.
 use Prim.Native.Nat.{ℕ, zero, suc, _+_, _-_, _≤_, _<_}
-use mathlib.Core.Path.{_≡_, refl, sym, ap, _∙_, subst}
+use mathlib.Core.Path.{_≡_, refl, sym, ap, ap₂, _∙_, subst}
+use mathlib.Core.Logic.{_≢_}
+use mathlib.Core.List.{List}
 use mathlib.Core.Bool.{Bool, true, false, _||_, false≢true}
 use native.Mathlib.Omega.{arith}
+use lib.Dec.{eqb}
+use lib.ListN.{getD}
 use Rattle.rules.specs.Slots.{find, some}
 use Rattle.rules.proofs.Tests.{by-eq, by-bool, refuted}
 use Rattle.rules.proofs.Slots.{find-finds, some-none}
-use Rattle.steps.specs.Tests.{SameFrom}
-use borrow.Author.Tests.{ne-eqb}
+use Rattle.steps.specs.Tests.{SameFrom, cellIs}
+use borrow.Author.Tests.{eq-eqb, ne-eqb}
 
 or-true : (a : Bool) → (a || true) ≡ true
 or-true true = refl
@@ -100,9 +104,41 @@ module _ (t u : ℕ → Bool) where
       ∙ find-among n (λ k a b. h k a (omega arith))
       ∙ ap (λ k. find k t) (sym (find-down u n e)))
 
+  pub same-fewer : {n i : ℕ} → SameFrom u n i → ((k : ℕ) → 1 ≤ k → k ≤ n → t k ≡ true → u k ≡ true)
+      → SameFrom t n i
+  same-fewer {n} {i} now h = record {
+    high = now .high;
+    same = find-among n h ∙ ap (λ k. find k t) (now .same)
+        ∙ sym (find-among i (λ k a b. h k a (omega (arith, now .high))));
+  }
+
   pub same-among : {n i : ℕ} → SameFrom t n i → ((k : ℕ) → 1 ≤ k → k ≤ i → t k ≡ true → u k ≡ true)
       → (r : ℕ) → r ≡ find i u → SameFrom t n r
   same-among {n} {i} now h r e = record {
     high = omega (arith, now .high, find-le u i);
     same = now .same ∙ find-among i h ∙ ap (λ k. find k t) (sym e);
   }
+
+-- ---- one cell of a row
+
+module _ (off : ℕ) (l : List ℕ) (x k : ℕ) where
+  pub cell-is : getD l (off + k) 0 ≡ x → cellIs off l x k ≡ true
+  unfolding cellIs
+  cell-is e = eq-eqb _ _ e
+
+  pub cell-not : getD l (off + k) 0 ≢ x → cellIs off l x k ≡ false
+  unfolding cellIs
+  cell-not h = ne-eqb _ _ h
+
+-- the cells of a group, taken in order; v is the cell after the first j
+module _ (off : ℕ) (l : List ℕ) (x base j : ℕ) where
+  pub any-on : (a r : Bool) (v : ℕ) → a ≡ some j (λ i. cellIs off l x (base + i))
+      → v ≡ getD l (off + (base + (j + 1))) 0 → r ≡ (a || eqb v x)
+      → r ≡ some (j + 1) (λ i. cellIs off l x (base + i))
+  unfolding cellIs
+  any-on a r v e z q =
+      q ∙ ap₂ (λ y u. y || eqb u x) e z ∙ some-on (λ i. cellIs off l x (base + i)) j
+
+  pub any-all : (n : ℕ) (r : Bool) → j ≡ n → r ≡ some j (λ i. cellIs off l x (base + i))
+      → r ≡ some n (λ i. cellIs off l x (base + i))
+  any-all n r e q = rw e at q

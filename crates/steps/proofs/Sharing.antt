@@ -18,7 +18,7 @@ use Rattle.layout.specs.Rows.{ownerOf}
 use Rattle.layout.specs.View.{view}
 use Rattle.layout.proofs.Field.{field-in}
 use Rattle.layout.proofs.Shown.{cap-here, cap-object}
-use Rattle.steps.specs.Tests.{CapSlot, SameFrom, taken, p1At}
+use Rattle.steps.specs.Tests.{CapSlot, SameFrom, taken, cellIs}
 use Rattle.steps.proofs.Finding.{find-this, same-among}
 
 -- ---- one slot; x is its owner
@@ -42,8 +42,8 @@ module _ (b l w : List ℕ) (o p1 i : ℕ) (at : CapSlot i) (x : ℕ) (e : x ≡
         field-in 512 Layout.P1 w i (at .low) (at .high),
       )
 
-  pub taken-p1 : 1 ≤ o → taken (view b l w) o p1 i ≡ true → p1At w p1 i ≡ true
-  unfolding p1At
+  pub taken-p1 : 1 ≤ o → taken (view b l w) o p1 i ≡ true → cellIs Layout.P1 w p1 i ≡ true
+  unfolding cellIs
   taken-p1 low h = by-eq x o
       (λ q. taken-here low q ∙ h)
       (λ ne. absurd (false≢true (taken-else ne ∙ h)))
@@ -52,7 +52,7 @@ module _ (b l w : List ℕ) (o p1 i : ℕ) (at : CapSlot i) (x : ℕ) (e : x ≡
 
 -- the search goes on at the next slot with the p1
 pub taken-among : (b l w : List ℕ) (o p1 i : ℕ) → 1 ≤ o → SameFrom (taken (view b l w) o p1) 512 i
-    → (r : ℕ) → r ≡ find i (p1At w p1) → SameFrom (taken (view b l w) o p1) 512 r
+    → (r : ℕ) → r ≡ find i (cellIs Layout.P1 w p1) → SameFrom (taken (view b l w) o p1) 512 r
 taken-among b l w o p1 i some now = same-among _ _ now (λ k low high.
     taken-p1 b l w o p1 k (record { low = low; high = omega (arith, now .high) }) _ refl some)
 

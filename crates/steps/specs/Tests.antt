@@ -43,9 +43,9 @@ held s o p i = eqb (s .cap i .object) o && samePassword (s .cap i .password) p
 unfoldable pub taken : State → ℕ → ℕ → ℕ → Bool
 taken s o p1 i = eqb (s .cap i .object) o && eqb (s .cap i .password .p1) p1
 
--- the cell of slot k says this p1, whether or not the slot holds a capability
-unfoldable pub p1At : List ℕ → ℕ → ℕ → Bool
-p1At w p1 k = eqb (getD w (Layout.P1 + k) 0) p1
+-- the cell of slot k in the row from off on is x, whether or not the slot holds a record
+unfoldable pub cellIs : ℕ → List ℕ → ℕ → ℕ → Bool
+cellIs off l x k = eqb (getD l (off + k) 0) x
 
 -- from slot r down the same slot is found as from slot n
 pub record SameFrom (t : ℕ → Bool) (n r : ℕ) : Type 0 where

@@ -1,33 +1,16 @@
 -- `any_p1` meets its contract: its answer says whether one of the first j slots of the group has the p1.
-use Prim.Native.Nat.{ℕ, _+_, _-_, _≤_}
-use mathlib.Core.Path.{_≡_, sym, ap, _∙_}
-use mathlib.Core.Bool.{Bool, _||_}
-use mathlib.Core.List.{List}
+use Prim.Native.Nat.{_+_, _-_, _≤_}
+use mathlib.Core.Path.{_≡_, refl, sym}
 use native.Mathlib.Omega.{arith}
-use lib.Dec.{eqb}
-use lib.ListN.{getD}
 use Rattle.rules.specs.Slots.{some}
 use Rattle.layout.specs.Layout as Layout
-use Rattle.steps.specs.Tests.{p1At}
-use Rattle.steps.proofs.Finding.{some-zero, some-on}
+use Rattle.steps.specs.Tests.{cellIs}
+use Rattle.steps.proofs.Finding.{some-zero, any-on, any-all}
 use Rattle.steps.proofs.groups.any_p1.Statement.{statement}
 use Rattle.steps.proofs.groups.any_p1.Tie as tie
 
--- one slot more
-on : (w : List ℕ) (base p1 j : ℕ) (a r : Bool) → a ≡ some j (λ i. p1At w p1 (base + i))
-    → r ≡ (a || eqb (getD w (Layout.P1 + (base + (j + 1))) 0) p1)
-    → r ≡ some (j + 1) (λ i. p1At w p1 (base + i))
-unfolding p1At
-on w base p1 j a r e q =
-    q ∙ ap (λ x. x || eqb (getD w (Layout.P1 + (base + (j + 1))) 0) p1) e ∙ some-on (λ i. p1At w p1 (base + i)) j
-
--- all of the group
-all : (w : List ℕ) (base p1 j : ℕ) (r : Bool) → j ≡ 16 → r ≡ some j (λ i. p1At w p1 (base + i))
-    → r ≡ some 16 (λ i. p1At w p1 (base + i))
-all w base p1 j r e q = rw e at q
-
 abbrev Inv-loop : tie.InvT-loop
-Inv-loop words base p1 any₀ j₀ any j = (j ≤ 16) × (any ≡ some j (λ i. p1At words p1 (base + i)))
+Inv-loop words base p1 any₀ j₀ any j = (j ≤ 16) × (any ≡ some j (λ i. cellIs Layout.P1 words p1 (base + i)))
 
 abbrev μ-loop : tie.MeasureT-loop
 μ-loop words base p1 any₀ j₀ any j = 16 - j
@@ -57,12 +40,12 @@ loop-less : tie.Need-loop-less Inv-loop μ-loop
 loop-less c = omega arith
 
 loop-again : tie.Need-loop-again Inv-loop μ-loop
-loop-again c = (omega arith, on _ _ _ _ _ _ (c .before .before .before .loop .inv .1) (c .either .ensures))
+loop-again c = (omega arith, any-on Layout.P1 _ _ _ _ _ _ _ (c .before .before .before .loop .inv .1) refl (c .either .ensures))
 
 returns : tie.Need-returns Inv-loop μ-loop
 returns c =
     let l = c .before .loop in
-    all _ _ _ (l .j) _ (omega arith) (l .inv .1)
+    any-all Layout.P1 _ _ _ (l .j) 16 _ (omega arith) (l .inv .1)
 
 pub any-p1-spec : {M : Type 1} → statement M
 any-p1-spec =

@@ -1,38 +1,22 @@
--- `last_p1` meets its contract: it counts down from the slot where `skip_groups` stopped.
-use Prim.Native.Nat.{ℕ, _+_}
-use mathlib.Core.Path.{_≡_}
-use mathlib.Core.Logic.{_≢_}
-use mathlib.Core.Bool.{true, false}
-use mathlib.Core.List.{List}
+-- `last_p1` meets its contract: it counts down from the slot where `skip_p1s` stopped.
 use native.Mathlib.Omega.{arith}
-use lib.ListN.{getD}
-use borrow.Author.Tests.{eq-eqb, ne-eqb}
 use Rattle.layout.specs.Layout as Layout
-use Rattle.steps.specs.Tests.{SameFrom, p1At}
-use Rattle.steps.proofs.Finding.{same-next, same-found, same-end}
+use Rattle.steps.specs.Tests.{SameFrom, cellIs}
+use Rattle.steps.proofs.Finding.{cell-is, cell-not, same-next, same-found, same-end}
 use Rattle.steps.proofs.groups.last_p1.Statement.{statement}
 use Rattle.steps.proofs.groups.last_p1.Tie as tie
 
-module _ (w : List ℕ) (p1 k : ℕ) where
-  is-p1 : getD w (Layout.P1 + k) 0 ≡ p1 → p1At w p1 k ≡ true
-  unfolding p1At
-  is-p1 e = eq-eqb _ _ e
-
-  not-p1 : getD w (Layout.P1 + k) 0 ≢ p1 → p1At w p1 k ≡ false
-  unfolding p1At
-  not-p1 h = ne-eqb _ _ h
-
 abbrev Inv-loop : tie.InvT-loop
-Inv-loop words n p1 i₀ i = SameFrom (p1At words p1) n i
+Inv-loop words n p1 i₀ i = SameFrom (cellIs Layout.P1 words p1) n i
 
 abbrev μ-loop : tie.MeasureT-loop
 μ-loop words n p1 i₀ i = i
 
-skip-groups-requires : tie.Need-skip-groups-requires Inv-loop μ-loop
-skip-groups-requires c κs = c .before .pre
+skip-p1s-requires : tie.Need-skip-p1s-requires Inv-loop μ-loop
+skip-p1s-requires c κs = c .before .pre
 
 loop-holds : tie.Need-loop-holds Inv-loop μ-loop
-loop-holds c = c .skip-groups .ensures
+loop-holds c = c .skip-p1s .ensures
 
 add-if1 : tie.Need-add-if1 Inv-loop μ-loop
 add-if1 c = omega (arith, c .before .loop .inv .high)
@@ -46,7 +30,7 @@ shared-slice-read-if1 c = omega (arith, c .before .before .loop .inv .high)
 returns : tie.Need-returns Inv-loop μ-loop
 returns c =
     let l = c .before .before .before .loop in
-    same-found _ (l .inv) (omega arith) (is-p1 _ _ (l .i) (c .if1 .taken))
+    same-found _ (l .inv) (omega arith) (cell-is Layout.P1 _ _ (l .i) (c .if1 .taken))
 
 sub-i : tie.Need-sub-i Inv-loop μ-loop
 sub-i c = omega arith
@@ -57,7 +41,7 @@ loop-less c = omega arith
 loop-again : tie.Need-loop-again Inv-loop μ-loop
 loop-again c =
     let l = c .before .before .before .loop in
-    same-next _ (l .inv) (omega arith) (not-p1 _ _ (l .i) (c .if1 .left))
+    same-next _ (l .inv) (omega arith) (cell-not Layout.P1 _ _ (l .i) (c .if1 .left))
 
 returns-2 : tie.Need-returns-2 Inv-loop μ-loop
 returns-2 c = same-end _ (c .before .loop .inv) (omega arith)
@@ -68,7 +52,7 @@ last-p1-spec =
     (tie.spec
     Inv-loop
     μ-loop
-    skip-groups-requires
+    skip-p1s-requires
     loop-holds
     add-if1
     mul-if1

@@ -1,12 +1,11 @@
 -- `find_held` counts down as the rules' `find` does, from one slot with the p1 to the next.
 use Prim.Native.Nat.{ℕ, _-_, _≤_}
-use mathlib.Core.Path.{_≡_, sym, _∙_}
+use mathlib.Core.Path.{sym, _∙_}
 use mathlib.Core.List.{List}
 use native.Mathlib.Omega.{arith}
-use Rattle.rules.specs.Slots.{find}
 use Rattle.layout.specs.View.{view}
 use Rattle.values.specs.Words.{passwordOf}
-use Rattle.steps.specs.Tests.{SameFrom, held, p1At}
+use Rattle.steps.specs.Tests.{SameFrom, held}
 use Rattle.steps.proofs.Finding.{found-le, same-start, same-next, same-found, same-end}
 use Rattle.steps.proofs.Holding.{held-among}
 use Rattle.steps.proofs.present.find_held.Statement.{statement}

@@ -1,12 +1,11 @@
 -- `p1_taken` counts down as the rules' search does, from one slot with the p1 to the next.
 use Prim.Native.Nat.{ℕ, _-_, _≤_}
-use mathlib.Core.Path.{_≡_, sym, _∙_}
+use mathlib.Core.Path.{sym, _∙_}
 use mathlib.Core.List.{List}
 use native.Mathlib.Omega.{arith}
-use Rattle.rules.specs.Slots.{find}
 use Rattle.layout.specs.View.{view}
-use Rattle.steps.specs.Tests.{SameFrom, taken, p1At}
-use Rattle.steps.proofs.Finding.{found-le, find-end, same-start, same-next, same-end}
+use Rattle.steps.specs.Tests.{SameFrom, taken}
+use Rattle.steps.proofs.Finding.{found-le, same-start, same-next, same-end}
 use Rattle.steps.proofs.Sharing.{taken-among, some-is, some-not}
 use Rattle.steps.proofs.taken.p1_taken.Statement.{statement}
 use Rattle.steps.proofs.taken.p1_taken.Tie as tie

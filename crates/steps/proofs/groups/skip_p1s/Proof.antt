@@ -1,13 +1,14 @@
--- `skip_groups` meets its contract: from slot i down the same is found as from slot n.
+-- `skip_p1s` meets its contract: from slot i down the same is found as from slot n.
 use mathlib.Core.Path.{sym, _∙_}
 use native.Mathlib.Omega.{arith}
-use Rattle.steps.specs.Tests.{SameFrom, p1At}
+use Rattle.layout.specs.Layout as Layout
+use Rattle.steps.specs.Tests.{SameFrom, cellIs}
 use Rattle.steps.proofs.Finding.{same-start, same-past}
-use Rattle.steps.proofs.groups.skip_groups.Statement.{statement}
-use Rattle.steps.proofs.groups.skip_groups.Tie as tie
+use Rattle.steps.proofs.groups.skip_p1s.Statement.{statement}
+use Rattle.steps.proofs.groups.skip_p1s.Tie as tie
 
 abbrev Inv-loop : tie.InvT-loop
-Inv-loop words n p1 i₀ i = SameFrom (p1At words p1) n i
+Inv-loop words n p1 i₀ i = SameFrom (cellIs Layout.P1 words p1) n i
 
 abbrev μ-loop : tie.MeasureT-loop
 μ-loop words n p1 i₀ i = i
@@ -35,7 +36,7 @@ loop-again c =
 returns-2 : tie.Need-returns-2 Inv-loop μ-loop
 returns-2 c = c .before .loop .inv
 
-pub skip-groups-spec : {M : Type 1} → statement M
-skip-groups-spec =
+pub skip-p1s-spec : {M : Type 1} → statement M
+skip-p1s-spec =
     tie.close
     (tie.spec Inv-loop μ-loop loop-holds any-p1-requires returns loop-less loop-again returns-2)
