@@ -2,7 +2,7 @@
 use Prim.Native.Nat.{ℕ, _+_, _≤_}
 use mathlib.Core.Path.{_≡_, refl, sym, _∙_}
 use mathlib.Core.Logic.{_≢_}
-use mathlib.Core.Bool.{Bool, true, false, not, _&&_, _||_, and-false}
+use mathlib.Core.Bool.{Bool, true, false, not, _&&_, _||_, and-false, false≢true}
 use mathlib.Core.List.{List}
 use native.Mathlib.Omega.{arith}
 use lib.Dec.{eqb}
@@ -11,7 +11,7 @@ use borrow.Author.Tests.{eq-eqb, ne-eqb}
 use Rattle.rules.specs.Store.{Name, State, sameName, noObject, objectNamed}
 use Rattle.rules.specs.Slots.{find}
 use Rattle.rules.specs.Refusals.{running}
-use Rattle.rules.proofs.Tests.{all2}
+use Rattle.rules.proofs.Tests.{all2, by-eq}
 use Rattle.rules.proofs.Slots.{find-finds}
 use Rattle.layout.specs.Layout as Layout
 use Rattle.layout.specs.Rows.{field, masterOf, flagOf}
@@ -19,8 +19,8 @@ use Rattle.layout.specs.View.{isSet, isProcess, view}
 use Rattle.layout.proofs.Field.{field-in, field-out}
 use Rattle.layout.proofs.Shown.{process-no, process-is, process-lives}
 use Rattle.layout.proofs.Shown.{object-here, object-none, object-shown, marks-here}
-use Rattle.steps.specs.Tests.{ObjectSlot, named, unmarked}
-use Rattle.steps.proofs.Finding.{find-le}
+use Rattle.steps.specs.Tests.{ObjectSlot, SameFrom, named, unmarked, cellIs}
+use Rattle.steps.proofs.Finding.{find-le, same-fewer}
 
 -- the cell of an object's slot
 row : (off : ℕ) (l : List ℕ) (o : ℕ) → ObjectSlot o → field 64 off l o ≡ getD l (off + o) 0
@@ -56,6 +56,20 @@ module _ (b l w : List ℕ) (n : Name) (o : ℕ) (at : ObjectSlot o) where
         → (y : ℕ) → y ≡ getD l (Layout.SERIAL + o) 0 → eqb y (n .serial) ≡ named (view b l w) n o
     named-serial x e q y f =
         rw f (sym (named-here ∙ rw (eq-eqb (getD b (Layout.VOLUME + o) 0) (n .volume) (sym e ∙ q))))
+
+  pub named-cell : named (view b l w) n o ≡ true → cellIs Layout.SERIAL l (n .serial) o ≡ true
+  unfolding cellIs
+  named-cell h = by-eq (getD l (Layout.MASTER + o) 0) 0
+      (λ z. absurd (false≢true (named-none z ∙ h)))
+      (λ alive.
+      all2 (eqb (getD b (Layout.VOLUME + o) 0) (n .volume)) (eqb (getD l (Layout.SERIAL + o) 0) (n .serial))
+      (sym (named-here alive) ∙ h) .1)
+
+-- the search of the serials does for the names
+pub named-from : (b l w : List ℕ) (n : Name) (r : ℕ) → SameFrom (cellIs Layout.SERIAL l (n .serial)) 64 r
+    → SameFrom (named (view b l w) n) 64 r
+named-from b l w n r now =
+    same-fewer _ _ now (λ k low high. named-cell b l w n k (record { low = low; high = high }))
 
 -- ---- processes
 

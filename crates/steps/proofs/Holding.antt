@@ -1,8 +1,8 @@
 -- The capability presented: what the cells say of a slot, and why the owner's slot decides as its name does.
 use Prim.Native.Nat.{ℕ, _+_, _≤_}
-use mathlib.Core.Path.{_≡_, sym, ap, _∙_, fun-ext}
+use mathlib.Core.Path.{_≡_, refl, sym, ap, _∙_, fun-ext}
 use mathlib.Core.Logic.{_≢_}
-use mathlib.Core.Bool.{Bool, true, false, _&&_}
+use mathlib.Core.Bool.{Bool, true, false, _&&_, false≢true}
 use mathlib.Core.List.{List}
 use native.Mathlib.Omega.{arith}
 use lib.Dec.{eqb}
@@ -24,8 +24,9 @@ use Rattle.layout.proofs.Field.{field-in, field-low, field-high}
 use Rattle.layout.proofs.Shaped.{shaped}
 use Rattle.layout.proofs.Shown.{process-yes, lock-here, cap-here, cap-object, cap-lives}
 use Rattle.steps.specs.Run.{Process, Held, Target}
-use Rattle.steps.specs.Tests.{CapSlot, held}
+use Rattle.steps.specs.Tests.{CapSlot, SameFrom, held, cellIs}
 use Rattle.steps.proofs.Callers.{found-live}
+use Rattle.steps.proofs.Finding.{same-among}
 
 -- the cell of a capability's slot
 row : (off : ℕ) (l : List ℕ) (i : ℕ) → CapSlot i → field 512 off l i ≡ getD l (off + i) 0
@@ -48,6 +49,20 @@ module _ (b l w : List ℕ) (o : ℕ) (p : Password) (i : ℕ) (at : CapSlot i) 
     held-here some q =
         let alive : ownerOf l i ≢ 0 = λ z. omega (arith, row Layout.OWNER l i at) in
         rw (owner-is, eq-eqb x o q, cap-here b l w i alive, row Layout.P1 w i at, row Layout.P2 w i at)
+
+    pub held-p1 : 1 ≤ o → held (view b l w) o p i ≡ true → cellIs Layout.P1 w (p .p1) i ≡ true
+    unfolding cellIs
+    held-p1 some h = by-eq x o
+        (λ q.
+        all2 (eqb (getD w (Layout.P1 + i) 0) (p .p1)) (eqb (getD w (Layout.P2 + i) 0) (p .p2))
+        (sym (held-here some q) ∙ h) .0)
+        (λ ne. absurd (false≢true (held-else ne ∙ h)))
+
+-- the search goes on at the next slot with the p1
+pub held-among : (b l w : List ℕ) (o : ℕ) (p : Password) (i : ℕ) → 1 ≤ o → SameFrom (held (view b l w) o p) 512 i
+    → (r : ℕ) → r ≡ find i (cellIs Layout.P1 w (p .p1)) → SameFrom (held (view b l w) o p) 512 r
+held-among b l w o p i some now = same-among _ _ now (λ k low high.
+    held-p1 b l w o p k (record { low = low; high = omega (arith, now .high) }) _ refl some)
 
 -- ---- the search
 

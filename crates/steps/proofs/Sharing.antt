@@ -2,7 +2,7 @@
 use Prim.Native.Nat.{ℕ, _+_, _≤_}
 use mathlib.Core.Path.{_≡_, refl, sym, _∙_}
 use mathlib.Core.Logic.{_≢_}
-use mathlib.Core.Bool.{Bool, true, false}
+use mathlib.Core.Bool.{Bool, true, false, false≢true}
 use mathlib.Core.List.{List}
 use native.Mathlib.Omega.{arith}
 use lib.Dec.{eqb}
@@ -12,13 +12,14 @@ use Rattle.rules.specs.Slots.{find, some}
 use Rattle.rules.specs.Store.{State}
 use Rattle.rules.specs.Call.{Call}
 use Rattle.rules.specs.Calls.{p1Taken}
+use Rattle.rules.proofs.Tests.{by-eq}
 use Rattle.layout.specs.Layout as Layout
 use Rattle.layout.specs.Rows.{ownerOf}
 use Rattle.layout.specs.View.{view}
 use Rattle.layout.proofs.Field.{field-in}
 use Rattle.layout.proofs.Shown.{cap-here, cap-object}
-use Rattle.steps.specs.Tests.{CapSlot, taken}
-use Rattle.steps.proofs.Finding.{find-this}
+use Rattle.steps.specs.Tests.{CapSlot, SameFrom, taken, cellIs}
+use Rattle.steps.proofs.Finding.{find-this, same-among}
 
 -- ---- one slot; x is its owner
 
@@ -41,7 +42,19 @@ module _ (b l w : List ℕ) (o p1 i : ℕ) (at : CapSlot i) (x : ℕ) (e : x ≡
         field-in 512 Layout.P1 w i (at .low) (at .high),
       )
 
+  pub taken-p1 : 1 ≤ o → taken (view b l w) o p1 i ≡ true → cellIs Layout.P1 w p1 i ≡ true
+  unfolding cellIs
+  taken-p1 low h = by-eq x o
+      (λ q. taken-here low q ∙ h)
+      (λ ne. absurd (false≢true (taken-else ne ∙ h)))
+
 -- ---- all slots
+
+-- the search goes on at the next slot with the p1
+pub taken-among : (b l w : List ℕ) (o p1 i : ℕ) → 1 ≤ o → SameFrom (taken (view b l w) o p1) 512 i
+    → (r : ℕ) → r ≡ find i (cellIs Layout.P1 w p1) → SameFrom (taken (view b l w) o p1) 512 r
+taken-among b l w o p1 i some now = same-among _ _ now (λ k low high.
+    taken-p1 b l w o p1 k (record { low = low; high = omega (arith, now .high) }) _ refl some)
 
 pub some-is : (t : ℕ → Bool) (i : ℕ) → 1 ≤ i → find 512 t ≡ find i t → t i ≡ true → true ≡ some 512 t
 unfolding some

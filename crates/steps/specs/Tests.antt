@@ -1,10 +1,11 @@
 -- The rules' tests of one slot, each by its name, and the slots and slices of which the code asks them.
-use Prim.Native.Nat.{ℕ, _≤_}
+use Prim.Native.Nat.{ℕ, _+_, _≤_}
 use mathlib.Core.Path.{_≡_}
 use mathlib.Core.Bool.{Bool, not, _&&_, _||_}
 use mathlib.Core.List.{List}
 use lib.Dec.{eqb}
-use lib.ListN.{length}
+use lib.ListN.{length, getD}
+use Rattle.rules.specs.Slots.{find}
 use Rattle.rules.specs.Store.{Name, Password, State, sameName, samePassword}
 use Rattle.layout.specs.Layout as Layout
 use Rattle.layout.specs.Rows.{suspendedOf, waitingOf, terminatedOf}
@@ -41,3 +42,12 @@ held s o p i = eqb (s .cap i .object) o && samePassword (s .cap i .password) p
 -- slot i holds a capability of object o with this p1
 unfoldable pub taken : State → ℕ → ℕ → ℕ → Bool
 taken s o p1 i = eqb (s .cap i .object) o && eqb (s .cap i .password .p1) p1
+
+-- the cell of slot k in the row from off on is x, whether or not the slot holds a record
+unfoldable pub cellIs : ℕ → List ℕ → ℕ → ℕ → Bool
+cellIs off l x k = eqb (getD l (off + k) 0) x
+
+-- from slot r down the same slot is found as from slot n
+pub record SameFrom (t : ℕ → Bool) (n r : ℕ) : Type 0 where
+  pub high : r ≤ n
+  pub same : find n t ≡ find r t

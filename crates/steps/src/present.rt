@@ -13,6 +13,7 @@ ghost use Rattle.layout.specs.WellFormed.{WellFormed};
 ghost use Rattle.steps.specs.Request.{capabilityOf};
 ghost use Rattle.steps.specs.Run.{Process, Held};
 ghost use Rattle.steps.specs.Tests.{CapSizes, CapSlot, held};
+use crate::groups::last_p1;
 use crate::objects::find_object;
 use crate::request::Capability;
 use crate::widen::slot;
@@ -45,12 +46,13 @@ fn find_held(links: &[u16], words: &[u32], o: usize, p: [u32; 2]) -> usize
     ensures { λ r. ⌜ ((b : List ℕ)
         → r ≡ find 512 (held (view b (now (links .entry)) (now (words .entry))) o (passwordOf p))) ⌝ }
 {
-    let mut i: usize = 512;
+    let p1 = p[0];
+    let mut i = last_p1(words, 512, p1);
     while 0 < i {
         if is_held(links, words, i, o, p) {
             return i;
         }
-        i -= 1;
+        i = last_p1(words, i - 1, p1);
     }
     0
 }

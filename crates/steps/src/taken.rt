@@ -5,6 +5,7 @@ ghost use Prim.Native.Nat.{ℕ, _≤_};
 ghost use Rattle.rules.specs.Slots.{some};
 ghost use Rattle.layout.specs.View.{view};
 ghost use Rattle.steps.specs.Tests.{CapSizes, CapSlot, taken};
+use crate::groups::last_p1;
 use crate::widen::slot;
 use layout::OWNER;
 use layout::P1;
@@ -26,12 +27,12 @@ pub fn p1_taken(links: &[u16], words: &[u32], o: usize, p1: u32) -> bool
     ensures { λ r. ⌜ ((b : List ℕ)
         → r ≡ some 512 (taken (view b (now (links .entry)) (now (words .entry))) o p1)) ⌝ }
 {
-    let mut i: usize = 512;
+    let mut i = last_p1(words, 512, p1);
     while 0 < i {
         if has_p1(links, words, i, o, p1) {
             return true;
         }
-        i -= 1;
+        i = last_p1(words, i - 1, p1);
     }
     false
 }

@@ -1,28 +1,28 @@
--- `find_object` counts down as the rules' `find` does.
+-- `find_object` counts down as the rules' `find` does, from the slot where `skip_serials` stopped.
 use Prim.Native.Nat.{ℕ, _≤_}
-use mathlib.Core.Path.{_≡_, refl, sym, _∙_}
+use mathlib.Core.Path.{sym, _∙_}
 use mathlib.Core.List.{List}
-use Rattle.rules.specs.Slots.{find}
+use native.Mathlib.Omega.{arith}
 use Rattle.layout.specs.View.{view}
 use Rattle.steps.specs.Request.{nameOf}
-use Rattle.steps.specs.Tests.{named}
-use Rattle.steps.proofs.Finding.{find-this, find-next, find-end}
-use Rattle.steps.proofs.Callers.{named-found}
-use native.Mathlib.Omega.{arith}
+use Rattle.steps.specs.Tests.{SameFrom, named}
+use Rattle.steps.proofs.Finding.{same-next, same-found, same-end}
+use Rattle.steps.proofs.Callers.{named-found, named-from}
 use Rattle.steps.proofs.objects.find_object.Statement.{statement}
 use Rattle.steps.proofs.objects.find_object.Tie as tie
 
 abbrev Inv-loop : tie.InvT-loop
 Inv-loop bytes links name o₀ o =
-    (o ≤ 64)
-    × ((w : List ℕ) → find 64 (named (view bytes links w) (nameOf name))
-    ≡ find o (named (view bytes links w) (nameOf name)))
+    (o ≤ 64) × ((w : List ℕ) → SameFrom (named (view bytes links w) (nameOf name)) 64 o)
 
 abbrev μ-loop : tie.MeasureT-loop
 μ-loop bytes links name o₀ o = o
 
+skip-serials-requires : tie.Need-skip-serials-requires Inv-loop μ-loop
+skip-serials-requires c κs = (c .before .before .pre .links, omega arith)
+
 loop-holds : tie.Need-loop-holds Inv-loop μ-loop
-loop-holds c = (omega arith, λ w. refl)
+loop-holds c = (c .skip-serials .ensures .high, λ w. named-from _ _ w (nameOf _) _ (c .skip-serials .ensures))
 
 is-named-requires : tie.Need-is-named-requires Inv-loop μ-loop
 is-named-requires c κs = omega arith
@@ -31,7 +31,7 @@ returns : tie.Need-returns Inv-loop μ-loop
 returns c w =
     let l = c .before .before .before .loop in
     let test = c .before .is-named .ensures w in
-    sym (named-found _ _ ∙ l .inv .1 w ∙ find-this _ (l .o) (omega arith) (sym test ∙ c .if1 .taken))
+    same-found _ (l .inv .1 w) (omega arith) (sym test ∙ c .if1 .taken) ∙ sym (named-found _ _)
 
 sub-o : tie.Need-sub-o Inv-loop μ-loop
 sub-o c = omega arith
@@ -43,12 +43,10 @@ loop-again : tie.Need-loop-again Inv-loop μ-loop
 loop-again c =
     let l = c .before .before .before .loop in
     let test = c .before .is-named .ensures in
-    (omega arith, λ w. l .inv .1 w ∙ find-next _ (l .o) (omega arith) (sym (test w) ∙ c .if1 .left))
+    (omega arith, λ w. same-next _ (l .inv .1 w) (omega arith) (sym (test w) ∙ c .if1 .left))
 
 returns-2 : tie.Need-returns-2 Inv-loop μ-loop
-returns-2 c w =
-    let l = c .before .loop in
-    sym (named-found _ _ ∙ l .inv .1 w ∙ find-end _ (l .o) (omega arith))
+returns-2 c w = same-end _ (c .before .loop .inv .1 w) (omega arith) ∙ sym (named-found _ _)
 
 pub find-object-spec : {M : Type 1} → statement M
 find-object-spec =
@@ -56,6 +54,7 @@ find-object-spec =
     (tie.spec
     Inv-loop
     μ-loop
+    skip-serials-requires
     loop-holds
     is-named-requires
     returns

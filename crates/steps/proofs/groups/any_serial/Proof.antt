@@ -1,0 +1,73 @@
+-- `any_serial` meets its contract: its answer says whether one of the first j slots of the group has the serial.
+use Prim.Native.Nat.{_+_, _-_, _≤_}
+use mathlib.Core.Path.{_≡_, sym}
+use native.Mathlib.Omega.{arith}
+use Rattle.rules.specs.Slots.{some}
+use Rattle.layout.specs.Layout as Layout
+use Rattle.steps.specs.Tests.{cellIs}
+use Rattle.steps.proofs.Finding.{some-zero, any-on, any-all}
+use Rattle.steps.proofs.groups.any_serial.Statement.{statement}
+use Rattle.steps.proofs.groups.any_serial.Tie as tie
+
+abbrev Inv-loop : tie.InvT-loop
+Inv-loop links base serial any₀ j₀ any j = (j ≤ 16) × (any ≡ some j (λ i. cellIs Layout.SERIAL links serial (base + i)))
+
+abbrev μ-loop : tie.MeasureT-loop
+μ-loop links base serial any₀ j₀ any j = 16 - j
+
+loop-holds : tie.Need-loop-holds Inv-loop μ-loop
+loop-holds c = (omega arith, sym (some-zero _))
+
+add-j : tie.Need-add-j Inv-loop μ-loop
+add-j c = omega arith
+
+add-k : tie.Need-add-k Inv-loop μ-loop
+add-k c = omega arith
+
+add-wide16 : tie.Need-add-wide16 Inv-loop μ-loop
+add-wide16 c = omega arith
+
+mul-wide16 : tie.Need-mul-wide16 Inv-loop μ-loop
+mul-wide16 c = omega arith
+
+shared-slice-read-wide16 : tie.Need-shared-slice-read-wide16 Inv-loop μ-loop
+shared-slice-read-wide16 c = omega arith
+
+wide16-requires : tie.Need-wide16-requires Inv-loop μ-loop
+wide16-requires c κs = tt
+
+either-requires : tie.Need-either-requires Inv-loop μ-loop
+either-requires c κs = tt
+
+loop-less : tie.Need-loop-less Inv-loop μ-loop
+loop-less c = omega arith
+
+loop-again : tie.Need-loop-again Inv-loop μ-loop
+loop-again c = (
+  omega arith,
+  any-on Layout.SERIAL _ _ _ _ _ _ _ (c .before .before .before .before .loop .inv .1)
+      (c .before .wide16 .ensures) (c .either .ensures),
+)
+
+returns : tie.Need-returns Inv-loop μ-loop
+returns c =
+    let l = c .before .loop in
+    any-all Layout.SERIAL _ _ _ (l .j) 16 _ (omega arith) (l .inv .1)
+
+pub any-serial-spec : {M : Type 1} → statement M
+any-serial-spec =
+    tie.close
+    (tie.spec
+    Inv-loop
+    μ-loop
+    loop-holds
+    add-j
+    add-k
+    add-wide16
+    mul-wide16
+    shared-slice-read-wide16
+    wide16-requires
+    either-requires
+    loop-less
+    loop-again
+    returns)
