@@ -1,0 +1,4 @@
+-- what a line and a turn leave of a run
+pub mod Going
+-- the input buffer
+pub mod Holding

@@ -1,0 +1,3 @@
+-- A script's lines on the store.
+pub mod Plays
+pub mod Starts
