@@ -1,6 +1,8 @@
 //! The verified static library beside the independent reference: its functions on slices
-//! (`kernel`), what a call hands over to it (`request`), and a count of its answers (`tally`).
+//! (`kernel`), what a call hands over to it (`request`), a count of its answers (`tally`), and the
+//! verified programs (`program`).
 
 pub mod kernel;
+pub mod program;
 pub mod request;
 pub mod tally;

@@ -4,7 +4,8 @@
 //! `call` and `kernel` are the calls and the store; `script` runs 01's scripts (`hall-reference`).
 //! `ledger` and `claims` check demand 3 beside a run. `generate`, with `profiles` and `random`,
 //! makes random calls and scripts (`make-script`); `conditions`, `scenes` and `coverage` count what
-//! they meet (`coverage`). `examples` prints answered scripts as definitions (`script-table`).
+//! they meet (`coverage`). `edges` is 01's edges as scripts; `examples` prints answered scripts as
+//! definitions (`script-table`).
 //!
 //! `raw` is a store in slices (`layout` has the offsets, `encode` lays a store out), `oracle` and
 //! `plain` check that slices are well formed, `damage` and `crafted` spoil them, and `samples`
@@ -16,6 +17,7 @@ pub mod conditions;
 pub mod coverage;
 pub mod crafted;
 pub mod damage;
+pub mod edges;
 pub mod encode;
 pub mod examples;
 pub mod generate;

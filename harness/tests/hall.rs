@@ -1,0 +1,140 @@
+//! The verified program `hall` beside the reference, byte for byte: 01's example and edges, a corpus
+//! of random scripts of all profiles, malformed ones too, and lines of every length.
+
+use harness::program::output;
+use reference::edges::{cases, check, script as script_of};
+use reference::generate::script;
+use reference::profiles::PROFILES;
+use reference::random::Random;
+use reference::script::run_script;
+
+const SCRIPTS: u64 = 300;
+const LINES: usize = 300_000;
+
+fn expected(input: &[u8]) -> Vec<u8> {
+    let mut output = Vec::new();
+    run_script(&mut &*input, &mut output).expect("a run in memory");
+    output
+}
+
+fn compare(what: &str, input: &[u8]) {
+    let written = output("hall", input.to_vec());
+    let wanted = expected(input);
+    if written != wanted {
+        let differs = written.split(|b| *b == 10).zip(wanted.split(|b| *b == 10)).find(|(a, b)| a != b);
+        let text = |line: &[u8]| String::from_utf8_lossy(line).into_owned();
+        panic!("{what}: {:?}", differs.map(|(a, b)| (text(a), text(b))));
+    }
+}
+
+#[test]
+fn example_of_01() {
+    let input = include_bytes!("../../docs/example.script");
+    compare("01's example", input);
+    let text = "1 0 2 7 11 13\n2 0 2 7 21 22\n3 7\n4 0\n5 6\n6 0\n7 5\nT 865 0 0 135\n";
+    assert_eq!(output("hall", input.to_vec()), text.as_bytes());
+}
+
+#[test]
+fn edges() {
+    for case in cases() {
+        let written = output("hall", script_of(case).into_bytes());
+        check(case, &String::from_utf8(written).expect("output in digits"));
+    }
+}
+
+/// Seeded scripts of all profiles; of some the last line lacks its end.
+#[test]
+fn corpus() {
+    let mut lines = 0;
+    let mut scripts = 0;
+    for seed in 1.. {
+        if scripts >= SCRIPTS && lines >= LINES {
+            break;
+        }
+        for profile in PROFILES {
+            let mut input = script(profile, seed, 1_000);
+            if seed % 3 == 0 && input.last() == Some(&10) {
+                input.pop();
+            }
+            compare(profile.name, &input);
+            lines += input.iter().filter(|byte| **byte == 10).count();
+            scripts += 1;
+        }
+    }
+    println!("{scripts} scripts, {lines} lines");
+}
+
+/// Bad and absent first lines, empty lines, bytes of all kinds.
+#[test]
+fn bad_lines() {
+    let first: [&[u8]; 12] = [
+        b"",
+        b"\n",
+        b"\n\n",
+        b"1000 5",
+        b"1000 5 9 1\n1 0 1",
+        b" 1000 5 9\n",
+        b"1000 5 9 \n",
+        b"01000 5 9\n",
+        b"4294967296 5 9\n",
+        b"4294967295 4294967295 4294967295",
+        b"1000 5 9\n",
+        b"1000 5 9\n\n\n15 0 1\n\n",
+    ];
+    for input in first {
+        compare("first line", input);
+    }
+    let mut random = Random::new(21);
+    let alphabet = b"0123456789 \n\n\t\r-+.a\0\xff";
+    for _ in 0..400 {
+        let length = random.below(400);
+        let mut input = b"100000 5 9\n".to_vec();
+        input.extend((0..length).map(|_| random.pick(alphabet).unwrap_or(b'0')));
+        compare("random bytes", &input);
+    }
+}
+
+/// Lines of 2,047 to 2,050 bytes and far longer ones, good but for their length, ended or not.
+#[test]
+fn long_lines() {
+    for length in [2_047, 2_048, 2_049, 2_050, 4_096, 65_535, 65_536, 65_537, 3_000_000] {
+        for end in [&b"\n"[..], b"\n15 0 1\n", b""] {
+            let mut input = b"1000 5 9\n3 0 1 0 1 5 9 0 0".to_vec();
+            let from = 9;
+            while input.len() - from + 2 <= length {
+                input.extend(b" 7");
+            }
+            if input.len() - from < length {
+                input.push(b'7');
+            }
+            assert_eq!(input.len() - from, length);
+            input.extend(end);
+            compare("a long line", &input);
+            let mut spaces = b"1000 5 9\n".to_vec();
+            spaces.extend(vec![b' '; length]);
+            spaces.extend(end);
+            compare("a line of spaces", &spaces);
+        }
+    }
+}
+
+/// A long first line, and many short lines across the program's buffers.
+#[test]
+fn buffers() {
+    let mut first = vec![b'1'; 5_000];
+    first.extend(b"\n15 0 1\n");
+    compare("a long first line", &first);
+    let mut random = Random::new(22);
+    for _ in 0..20 {
+        let mut input = b"4000000000 5 9\n1 0 1 2 512 0 8191 7 11 13\n".to_vec();
+        for _ in 0..20_000 {
+            match random.below(3) {
+                0 => input.extend(b"2 0 1 2 7 11 13 0 256\n"),
+                1 => input.extend(b"4 0 1 2 7 11 13\n"),
+                _ => input.push(10),
+            }
+        }
+        compare("many lines", &input);
+    }
+}
