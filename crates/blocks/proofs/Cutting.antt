@@ -10,7 +10,7 @@ use lib.ListN.{getD, set}
 use Rattle.layout.specs.Layout as Layout
 use Rattle.layout.specs.Rows.{nextBlockOf}
 use Rattle.layout.proofs.Field.{field-in}
-use Rattle.blocks.specs.Taking.{later, freeHead, freeBlock, tooFew, takenLinks, Enough}
+use Rattle.blocks.specs.Taking.{later, freeHead, freeBlock, lastFree, tooFew, takenLinks, Enough}
 use Rattle.blocks.proofs.Walking.{Rest, rest-high, rest-next, rest-low, next-zero, enough-rest}
 
 pub few-none : (l : List ℕ) (n : ℕ) → n ≡ 0 → false ≡ tooFew l n
@@ -26,6 +26,13 @@ few-some l (suc n) h r e =
     ap (λ x. eqb x 0) (e ∙ ap (freeBlock l) p)
 
 -- ---- the last of the n blocks
+
+pub last-free : (l : List ℕ) (n : ℕ) → n ≢ 0 → lastFree l n ≡ freeBlock l (n - 1)
+unfolding lastFree
+last-free l zero h = absurd (h refl)
+last-free l (suc m) h =
+    let p : m ≡ suc m - 1 = omega arith in
+    ap (freeBlock l) p
 
 later-rest : (next : ℕ → ℕ) → next 0 ≡ 0 → (m block n : ℕ) → m < n → Rest next block n
     → Rest next (later next m block) (n - m)

@@ -9,7 +9,7 @@ use Rattle.layout.specs.Layout as Layout
 use Rattle.layout.specs.Rows.{nextBlockOf}
 use Rattle.layout.specs.Shape.{Chain}
 use Rattle.layout.proofs.Field.{field-out}
-use Rattle.blocks.specs.Taking.{later, freeHead, zeroed, dataFrom, cleared, FreeChain, Enough}
+use Rattle.blocks.specs.Taking.{later, freeHead, freeBlock, lastFree, zeroed, dataFrom, cleared, FreeChain, Enough}
 
 -- after 0 comes 0
 pub next-zero : (l : List ℕ) → nextBlockOf l 0 ≡ 0
@@ -78,6 +78,33 @@ unfolding later
 walk-all {next} {head} {n} {i} {block} w h =
     let e : n - i ≡ 0 = omega arith in
     sym (ap (λ m. later next m block) e) ∙ w .same
+
+-- ---- the last block passed
+
+pub later-next : (next : ℕ → ℕ) (i k : ℕ) → later next (suc i) k ≡ next (later next i k)
+unfolding later
+later-next next zero k = refl
+later-next next (suc i) k = later-next next i (next k)
+
+-- i blocks are passed: block is the next, last the last of them
+pub record Passing (l : List ℕ) (i block last : ℕ) : Type 0 where
+  pub here : block ≡ freeBlock l i
+  pub passed : last ≡ lastFree l i
+
+pub passing-none : (l : List ℕ) (k : ℕ) → k ≡ freeHead l → Passing l 0 k 0
+unfolding later lastFree
+passing-none l k e = record { here = e; passed = refl }
+
+pub passing-more : {l : List ℕ} {i block last : ℕ} → Passing l i block last → (k : ℕ) → k ≡ nextBlockOf l block
+    → Passing l (i + 1) k block
+unfolding lastFree
+passing-more {l} {i} {block} p k e = rw (add-one i) (record {
+  here = e ∙ ap (nextBlockOf l) (p .here) ∙ sym (later-next (nextBlockOf l) i (freeHead l));
+  passed = p .here;
+})
+
+pub passing-all : {l : List ℕ} {n i block last : ℕ} → Passing l i block last → i ≡ n → last ≡ lastFree l n
+passing-all {l} p e = p .passed ∙ ap (lastFree l) e
 
 -- ---- zeros
 

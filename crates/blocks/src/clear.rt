@@ -3,7 +3,7 @@ ghost use Prim.Native.Nat.{_≤_};
 ghost use mathlib.Core.Path.{_≡_};
 ghost use lib.ListN.{length};
 ghost use Rattle.layout.specs.Layout;
-ghost use Rattle.blocks.specs.Taking.{zeroed, dataFrom, clearedBytes, Enough};
+ghost use Rattle.blocks.specs.Taking.{zeroed, dataFrom, clearedBytes, lastFree, Enough};
 use crate::chain::free_head;
 use crate::chain::next_block;
 use layout::DATA;
@@ -20,16 +20,20 @@ fn clear_block(bytes: &mut [u8], k: usize)
     }
 }
 
-// The bytes of the first n free blocks.
-pub fn clear(bytes: &mut [u8], links: &[u16], n: usize)
+// The bytes of the first n free blocks; the last of the blocks, 0 if there is none.
+pub fn clear(bytes: &mut [u8], links: &[u16], n: usize) -> usize
     requires { ⌜ length (now bytes) ≡ Layout.BYTES ⌝ ∗ ⌜ Enough (now links) n ⌝ }
-    ensures { λ _. ⌜ now (bytes .exit) ≡ clearedBytes (now (bytes .entry)) (now (links .entry)) n ⌝ }
+    ensures { λ r. ⌜ now (bytes .exit) ≡ clearedBytes (now (bytes .entry)) (now (links .entry)) n ⌝
+        ∗ ⌜ r ≡ lastFree (now (links .entry)) n ⌝ }
 {
     let mut block = free_head(links);
+    let mut last: usize = 0;
     let mut i: usize = 0;
     while i < n {
         clear_block(bytes, block);
+        last = block;
         block = next_block(links, block);
         i += 1;
     }
+    last
 }

@@ -48,8 +48,8 @@ fn hold(bytes: &mut [u8], links: &mut [u16], o: usize, size: u32)
     ensures { λ _. ⌜ Holds (now (bytes .entry)) (now (links .entry)) o size (now (bytes .exit)) (now (links .exit)) ⌝ }
 {
     let n = blocks_of(size) as usize;
-    clear(bytes, links, n);
-    take(links, o, n);
+    let last = clear(bytes, links, n);
+    take(links, o, n, last);
 }
 
 // Its record.

@@ -6,7 +6,6 @@ ghost use lib.ListN.{length};
 ghost use Rattle.rules.specs.Slots.{find, some};
 ghost use Rattle.layout.specs.Layout;
 ghost use Rattle.steps.specs.Tests.{cellIs, SameFrom};
-use crate::widen::wide16;
 use layout::P1;
 use layout::SERIAL;
 
@@ -64,7 +63,7 @@ pub fn last_p1(words: &[u32], n: usize, p1: u32) -> usize
 }
 
 // Some object slot of base + 1 to base + 16 has this serial.
-fn any_serial(links: &[u16], base: usize, serial: u32) -> bool
+fn any_serial(links: &[u16], base: usize, serial: u16) -> bool
     requires { ⌜ length (now links) ≡ Layout.LINKS ⌝ ∗ ⌜ base + 16 ≤ 64 ⌝ }
     ensures { λ r. ⌜ r ≡ some 16 (λ j. cellIs Layout.SERIAL (now (links .entry)) serial (base + j)) ⌝ }
 {
@@ -73,14 +72,13 @@ fn any_serial(links: &[u16], base: usize, serial: u32) -> bool
     while j < 16 {
         j += 1;
         let k = base + j;
-        let link = wide16(links[SERIAL + k]);
-        any = either(any, link == serial);
+        any = either(any, links[SERIAL + k] == serial);
     }
     any
 }
 
 // An object slot from which the same is found as from slot n: groups of which no slot has this serial are passed over.
-pub fn skip_serials(links: &[u16], n: usize, serial: u32) -> usize
+fn skip_serials(links: &[u16], n: usize, serial: u16) -> usize
     requires { ⌜ length (now links) ≡ Layout.LINKS ⌝ ∗ ⌜ n ≤ 64 ⌝ }
     ensures { λ r. ⌜ SameFrom (cellIs Layout.SERIAL (now (links .entry)) serial) n r ⌝ }
 {
@@ -92,4 +90,15 @@ pub fn skip_serials(links: &[u16], n: usize, serial: u32) -> usize
         i -= 16;
     }
     i
+}
+
+// The same from the last object slot, of a serial that may be too large for a link.
+pub fn from_serial(links: &[u16], serial: u32) -> usize
+    requires { ⌜ length (now links) ≡ Layout.LINKS ⌝ }
+    ensures { λ r. ⌜ SameFrom (cellIs Layout.SERIAL (now (links .entry)) serial) 64 r ⌝ }
+{
+    if serial <= 65535 {
+        return skip_serials(links, 64, serial as u16);
+    }
+    64
 }

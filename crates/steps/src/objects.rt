@@ -11,7 +11,7 @@ ghost use Rattle.layout.specs.Rows.{masterOf};
 ghost use Rattle.layout.specs.View.{view};
 ghost use Rattle.steps.specs.Request.{nameOf};
 ghost use Rattle.steps.specs.Tests.{Sizes, ObjectSlot, named, unmarked};
-use crate::groups::skip_serials;
+use crate::groups::from_serial;
 use crate::request::Name;
 use crate::widen::wide8;
 use crate::widen::wide16;
@@ -43,7 +43,7 @@ pub fn find_object(bytes: &[u8], links: &[u16], name: Name) -> usize
     ensures { λ r. ⌜ ((w : List ℕ)
         → r ≡ objectNamed (view (now (bytes .entry)) (now (links .entry)) w) (nameOf name)) ⌝ }
 {
-    let mut o = skip_serials(links, 64, name.serial);
+    let mut o = from_serial(links, name.serial);
     while 0 < o {
         if is_named(bytes, links, o, name) {
             return o;

@@ -1,16 +1,21 @@
 -- `take` cuts the chain after its n-th block.
-use Rattle.blocks.proofs.Cutting.{Block, last-block, taken-none, taken-some}
+use Rattle.blocks.proofs.Cutting.{Block, last-free, last-block, taken-none, taken-some}
+use Prim.Native.Nat.{_-_}
+use mathlib.Core.Path.{_≡_, _∙_}
 use native.Mathlib.Omega.{arith}
+use Rattle.blocks.specs.Taking.{freeBlock}
 use lib.ListN.{length-set}
 use borrow.Author.Needs.{needs}
 use Rattle.blocks.proofs.take.take.Statement.{statement}
 use Rattle.blocks.proofs.take.take.Tie as tie
 
 -- the last of the n blocks
-last : (c : tie.After-free-block) → Block (c .free-block .result)
-last c =
-    last-block (c .before .before .before .before .before .pre .0) (c .before .before .before .if1 .left) _
-    (c .free-block .ensures)
+last-is : (c : tie.After-slice-known)
+    → c .before .before .args .last ≡ freeBlock (c .before .before .args .links .now) (c .before .before .args .n - 1)
+last-is c = c .before .before .pre .1 .1 ∙ last-free _ _ (c .before .if1 .left)
+
+last : (c : tie.After-slice-known) → Block (c .before .before .args .last)
+last c = last-block (c .before .before .pre .0) (c .before .if1 .left) _ (last-is c)
 
 add-links : tie.Need-add-links
 add-links c = search needs
@@ -29,12 +34,6 @@ returns c = taken-none _ _ _ (c .if1 .taken)
 
 slice-read-head : tie.Need-slice-read-head
 slice-read-head c = search needs
-
-sub-free-block : tie.Need-sub-free-block
-sub-free-block c = search needs
-
-free-block-requires : tie.Need-free-block-requires
-free-block-requires c κs = search needs
 
 add-links-2 : tie.Need-add-links-2
 add-links-2 c = omega (arith, last c)
@@ -71,9 +70,9 @@ same-length-2 c = search needs
 
 returns-2 : tie.Need-returns-2
 returns-2 c =
-    let s = c .before .before .before .before .before .before in
-    taken-some (s .args .links .now) (s .args .o) (s .args .n) (c .before .before .before .before .if1 .left) _
-    (c .before .free-block .ensures) (last (c .before))
+    let s = c .before .before .before in
+    taken-some (s .args .links .now) (s .args .o) (s .args .n) (c .before .before .if1 .left) _
+    (last-is (c .before)) (last (c .before))
 
 pub take-spec : {M : Type 1} → statement M
 take-spec =
@@ -85,8 +84,6 @@ take-spec =
     same-length
     returns
     slice-read-head
-    sub-free-block
-    free-block-requires
     add-links-2
     mul-links-2
     slice-read-links

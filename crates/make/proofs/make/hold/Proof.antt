@@ -17,8 +17,10 @@ clear-requires c κs =
 
 take-requires : tie.Need-take-requires
 take-requires c κs =
-    let s = c .before .before .before .before .before .before .before .before .before in
-    (hold-enough (s .pre) _ (c .before .before .before .before .before .before .blocks-of .ensures), s .pre .slot .high)
+    let s = c .before .before .before .before .before .before .before .before .before in (
+      hold-enough (s .pre) _ (c .before .before .before .before .before .before .blocks-of .ensures),
+      (s .pre .slot .high, c .before .before .before .clear .ensures .1),
+    )
 
 same-length : tie.Need-same-length
 same-length c = search needs
@@ -30,7 +32,7 @@ returns : tie.Need-returns
 returns c =
     let n = c .before .before .before .before .before .before .before .before .before in
     holds-is _ _ _ (n .before .before .before .args .size) _ (n .blocks-of .ensures) _ _
-    (c .before .before .before .before .before .before .clear .ensures) (c .before .before .take .ensures)
+    (c .before .before .before .before .before .before .clear .ensures .0) (c .before .before .take .ensures)
 
 pub hold-spec : {M : Type 1} → statement M
 hold-spec =

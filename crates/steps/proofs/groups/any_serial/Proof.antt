@@ -1,6 +1,6 @@
 -- `any_serial` meets its contract: its answer says whether one of the first j slots of the group has the serial.
 use Prim.Native.Nat.{_+_, _-_, _≤_}
-use mathlib.Core.Path.{_≡_, sym}
+use mathlib.Core.Path.{_≡_, refl, sym}
 use native.Mathlib.Omega.{arith}
 use Rattle.rules.specs.Slots.{some}
 use Rattle.layout.specs.Layout as Layout
@@ -24,17 +24,14 @@ add-j c = omega arith
 add-k : tie.Need-add-k Inv-loop μ-loop
 add-k c = omega arith
 
-add-wide16 : tie.Need-add-wide16 Inv-loop μ-loop
-add-wide16 c = omega arith
+add-either : tie.Need-add-either Inv-loop μ-loop
+add-either c = omega arith
 
-mul-wide16 : tie.Need-mul-wide16 Inv-loop μ-loop
-mul-wide16 c = omega arith
+mul-either : tie.Need-mul-either Inv-loop μ-loop
+mul-either c = omega arith
 
-shared-slice-read-wide16 : tie.Need-shared-slice-read-wide16 Inv-loop μ-loop
-shared-slice-read-wide16 c = omega arith
-
-wide16-requires : tie.Need-wide16-requires Inv-loop μ-loop
-wide16-requires c κs = tt
+shared-slice-read-either : tie.Need-shared-slice-read-either Inv-loop μ-loop
+shared-slice-read-either c = omega arith
 
 either-requires : tie.Need-either-requires Inv-loop μ-loop
 either-requires c κs = tt
@@ -43,11 +40,7 @@ loop-less : tie.Need-loop-less Inv-loop μ-loop
 loop-less c = omega arith
 
 loop-again : tie.Need-loop-again Inv-loop μ-loop
-loop-again c = (
-  omega arith,
-  any-on Layout.SERIAL _ _ _ _ _ _ _ (c .before .before .before .before .loop .inv .1)
-      (c .before .wide16 .ensures) (c .either .ensures),
-)
+loop-again c = (omega arith, any-on Layout.SERIAL _ _ _ _ _ _ _ (c .before .before .before .loop .inv .1) refl (c .either .ensures))
 
 returns : tie.Need-returns Inv-loop μ-loop
 returns c =
@@ -63,10 +56,9 @@ any-serial-spec =
     loop-holds
     add-j
     add-k
-    add-wide16
-    mul-wide16
-    shared-slice-read-wide16
-    wide16-requires
+    add-either
+    mul-either
+    shared-slice-read-either
     either-requires
     loop-less
     loop-again

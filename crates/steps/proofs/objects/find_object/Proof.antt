@@ -1,4 +1,4 @@
--- `find_object` counts down as the rules' `find` does, from the slot where `skip_serials` stopped.
+-- `find_object` counts down as the rules' `find` does, from the slot where `from_serial` stopped.
 use Prim.Native.Nat.{ℕ, _≤_}
 use mathlib.Core.Path.{sym, _∙_}
 use mathlib.Core.List.{List}
@@ -18,11 +18,11 @@ Inv-loop bytes links name o₀ o =
 abbrev μ-loop : tie.MeasureT-loop
 μ-loop bytes links name o₀ o = o
 
-skip-serials-requires : tie.Need-skip-serials-requires Inv-loop μ-loop
-skip-serials-requires c κs = (c .before .before .pre .links, omega arith)
+from-serial-requires : tie.Need-from-serial-requires Inv-loop μ-loop
+from-serial-requires c κs = c .before .before .pre .links
 
 loop-holds : tie.Need-loop-holds Inv-loop μ-loop
-loop-holds c = (c .skip-serials .ensures .high, λ w. named-from _ _ w (nameOf _) _ (c .skip-serials .ensures))
+loop-holds c = (c .from-serial .ensures .high, λ w. named-from _ _ w (nameOf _) _ (c .from-serial .ensures))
 
 is-named-requires : tie.Need-is-named-requires Inv-loop μ-loop
 is-named-requires c κs = omega arith
@@ -54,7 +54,7 @@ find-object-spec =
     (tie.spec
     Inv-loop
     μ-loop
-    skip-serials-requires
+    from-serial-requires
     loop-holds
     is-named-requires
     returns
