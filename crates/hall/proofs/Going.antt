@@ -13,7 +13,7 @@ use Rattle.play.specs.Plays.{Unchanged}
 use Rattle.play.specs.Starts.{Starts}
 use Rattle.hall.specs.declared.state.Run.{Run}
 use Rattle.hall.specs.State.{begun, opened, holding, ended}
-use Rattle.hall.specs.Runs.{Sound, Going, Stands, Begins, Roomy, LineOne, LineLater, LineDone, WindowDone}
+use Rattle.hall.specs.Runs.{Sound, Going, Stands, Begins, Roomy, LineOne, LineLater, LineDone, OneLine, WindowDone}
 
 -- ---- room
 
@@ -67,7 +67,7 @@ ended-is-done f size placed = record {
 unchanged-formed : {b l w b′ l′ w′ : List ℕ} → Unchanged b l w b′ l′ w′ → WellFormed b l w → WellFormed b′ l′ w′
 unchanged-formed u f = rw (u .bytes, u .links, u .words) f
 
-pub one-done : {line b l w b′ l′ w′ out : List ℕ} {s s′ : Run} → Going b l w out s → LineOne line b l w b′ l′ w′ s s′
+one-done : {line b l w b′ l′ w′ out : List ℕ} {s s′ : Run} → Going b l w out s → LineOne line b l w b′ l′ w′ s s′
     → LineDone b′ l′ w′ out s s′
 one-done {line} {b} {l} {w} {b′} {l′} {w′} {out} {s} {s′} g h = by-bool (s′ .going)
     (λ e. subst (LineDone b′ l′ w′ out s) (sym (h .good e))
@@ -77,7 +77,7 @@ one-done {line} {b} {l} {w} {b′} {l′} {w′} {out} {s} {s′} g h = by-bool 
 
 -- ---- a later line
 
-pub later-done : {line b l w b′ l′ w′ out out′ : List ℕ} {s m s′ : Run} → Sound b l w out s → Roomy out s m
+later-done : {line b l w b′ l′ w′ out out′ : List ℕ} {s m s′ : Run} → Sound b l w out s → Roomy out s m
     → LineLater line b l w out b′ l′ w′ out′ m s′ → length out′ ≡ length out → LineDone b′ l′ w′ out′ s s′
 later-done {s = s} {m = m} {s′ = s′} h r d size = record {
   sound = record {
@@ -92,8 +92,31 @@ later-done {s = s} {m = m} {s′ = s′} h r d size = record {
 }
 
 -- no write, no line
-pub room-done : {b l w out : List ℕ} {s s′ : Run} → Sound b l w out s → Roomy out s s′ → LineDone b l w out s s′
+room-done : {b l w out : List ℕ} {s s′ : Run} → Sound b l w out s → Roomy out s s′ → LineDone b l w out s s′
 room-done h r = record { sound = roomy-sound h r; held = r .held }
+
+-- ---- any line
+
+pub one-line-first : {line b l w b′ l′ w′ out : List ℕ} {s s′ : Run} → Going b l w out s → s .number ≡ 0
+    → LineOne line b l w b′ l′ w′ s s′ → OneLine line b l w out b′ l′ w′ out s s′
+one-line-first g z h = record { done = one-done g h; first = λ _. h; later = λ f. absurd (f z) }
+
+pub one-line-later : {line b l w b′ l′ w′ out out′ : List ℕ} {s m s′ : Run} → Sound b l w out s → (s .number ≡ 0 → ⊥)
+    → Roomy out s m → LineLater line b l w out b′ l′ w′ out′ m s′ → length out′ ≡ length out
+    → OneLine line b l w out b′ l′ w′ out′ s s′
+one-line-later {m = m} h f r d size = record {
+  done = later-done h r d size;
+  first = λ z. absurd (f z);
+  later = λ _ _. record { m = m; roomy = r; line-is = d };
+}
+
+pub one-line-none : {line b l w out : List ℕ} {s s′ : Run} → Going b l w out s → (s .number ≡ 0 → ⊥) → Roomy out s s′
+    → s′ .going ≡ false → OneLine line b l w out b l w out s s′
+one-line-none g f r e = record {
+  done = room-done (g .sound) r;
+  first = λ z. absurd (f z);
+  later = λ _ ok. absurd (true≢false (sym (r .stopped (g .going) e) ∙ ok));
+}
 
 -- ---- no more lines, and bytes held
 

@@ -57,6 +57,7 @@ pub record Roomy (out : List ℕ) (s s′ : Run) : Type 0 where
   pub held : s′ .held ≡ s .held
   -- a run goes on, unless a write failed
   pub going : s′ .going ≡ true → s .going ≡ true
+  pub stopped : s .going ≡ true → s′ .going ≡ false → s′ .failed ≡ true
 
 -- the end of the output: `0 2` where line one was bad or absent, else the totals
 pub record EndPut (b l w out : List ℕ) (s : Run) (out′ : List ℕ) (r : ℕ) : Type 0 where
@@ -89,10 +90,22 @@ pub record LineLater (line b l w out b′ l′ w′ out′ : List ℕ) (s s′ :
   pub failed : s′ .failed ≡ s .failed
   pub going : s′ .going ≡ true → s .number < 4294967294
 
--- any line
+-- what is kept after any line
 pub record LineDone (b′ l′ w′ out′ : List ℕ) (s s′ : Run) : Type 0 where
   pub sound : Sound b′ l′ w′ out′ s′
   pub held : s′ .held ≡ s .held
+
+-- a later line where room was made first: at m
+pub record LineRoomed (line b l w out b′ l′ w′ out′ : List ℕ) (s s′ : Run) : Type 0 where
+  pub m : Run
+  pub roomy : Roomy out s m
+  pub line-is : LineLater line b l w out b′ l′ w′ out′ m s′
+
+-- any line, by its number; where a write failed it is not played
+pub record OneLine (line b l w out b′ l′ w′ out′ : List ℕ) (s s′ : Run) : Type 0 where
+  pub done : LineDone b′ l′ w′ out′ s s′
+  pub first : s .number ≡ 0 → LineOne line b l w b′ l′ w′ s s′
+  pub later : (s .number ≡ 0 → ⊥) → s′ .failed ≡ false → LineRoomed line b l w out b′ l′ w′ out′ s s′
 
 -- all lines that end in a window
 pub record WindowDone (window b′ l′ w′ out′ : List ℕ) (s′ : Run) : Type 0 where

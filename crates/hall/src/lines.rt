@@ -1,6 +1,6 @@
 // The lines of a window of the input, in turn.
 ghost use Rattle.layout.specs.WellFormed.{WellFormed};
-ghost use Rattle.hall.specs.Runs.{Going, LineOne, LaterAsks, LineLater, LineDone, WindowDone};
+ghost use Rattle.hall.specs.Runs.{Going, LineOne, LaterAsks, LineLater, LineDone, OneLine, WindowDone};
 use crate::output::make_room;
 use crate::state::Run;
 use play::line::play_line;
@@ -59,7 +59,8 @@ fn one_line(
     run: Run,
 ) -> Run
     requires { ⌜ Going (now bytes) (now links) (now words) (now out) run ⌝ }
-    ensures { λ r. ⌜ LineDone (now (bytes .exit)) (now (links .exit)) (now (words .exit)) (now (out .exit)) run r ⌝ }
+    ensures { λ r. ⌜ OneLine (now (line .entry)) (now (bytes .entry)) (now (links .entry)) (now (words .entry)) (now (out .entry))
+        (now (bytes .exit)) (now (links .exit)) (now (words .exit)) (now (out .exit)) run r ⌝ }
 {
     if run.number == 0 {
         return first_line(bytes, links, words, line, run);

@@ -29,7 +29,7 @@ same-length-4 : tie.Need-same-length-4
 same-length-4 c = search needs
 
 returns-2 : tie.Need-returns-2
-returns-2 c = then-ended (c .before .before .before .before .before .before .before .before .before .one-line .ensures) (c .ended2 .ensures)
+returns-2 c = then-ended (c .before .before .before .before .before .before .before .before .before .one-line .ensures .done) (c .ended2 .ensures)
 
 pub last-line-spec : {M : Type 1} → statement M
 last-line-spec =

@@ -1,5 +1,5 @@
 -- `one_line` goes by the line's number.
-use Rattle.hall.proofs.Going.{roomy-sound, one-done, later-done, room-done}
+use Rattle.hall.proofs.Going.{roomy-sound, one-line-first, one-line-later, one-line-none}
 use borrow.Author.Needs.{needs}
 use Rattle.hall.proofs.lines.one_line.Statement.{statement}
 use Rattle.hall.proofs.lines.one_line.Tie as tie
@@ -19,7 +19,7 @@ same-length-3 c = search needs
 returns : tie.Need-returns
 returns c =
     let f = c .before .before .before .before .before .before in
-    one-done (f .before .before .before .before .before .before .before .before .before .before .before .pre) (f .first-line .ensures)
+    one-line-first (f .before .before .before .before .before .before .before .before .before .before .before .pre) (c .before .before .before .before .before .before .before .before .before .before .if1 .taken) (f .first-line .ensures)
 
 make-room-requires : tie.Need-make-room-requires
 make-room-requires c κs = search needs
@@ -47,13 +47,14 @@ returns-2 : tie.Need-returns-2
 returns-2 c =
     let d = c .before .before .before .before .before .before .before .before in
     let m = d .before .before .before .before .before .before in
-    later-done (m .before .before .before .before .before .before .before .before .before .pre .sound) (m .make-room .ensures) (d .later-line .ensures) (d .later-line .kept .1 .1 .1 .1 .0)
+    one-line-later (m .before .before .before .before .before .before .before .before .before .pre .sound) (c .before .before .before .before .before .before .before .before .before .before .before .before .before .before .before .before .if1 .left) (m .make-room .ensures) (d .later-line .ensures) (d .later-line .kept .1 .1 .1 .1 .0)
 
 same-length-8 : tie.Need-same-length-8
 same-length-8 c = search needs
 
 returns-3 : tie.Need-returns-3
-returns-3 c = room-done (c .before .before .before .before .before .before .before .before .before .before .pre .sound) (c .before .make-room .ensures)
+returns-3 c =
+    one-line-none (c .before .before .before .before .before .before .before .before .before .before .pre) (c .before .before .before .if1 .left) (c .before .make-room .ensures) (c .if2 .left)
 
 pub one-line-spec : {M : Type 1} → statement M
 one-line-spec =

@@ -69,7 +69,7 @@ loop-less c =
 loop-again : tie.Need-loop-again Inv-loop μ-loop
 loop-again c =
     let e = c .before .before .before .before .before .before .before .before .before .before .before .before .before .before in
-    (c .before .before .before .before .before .before .before .before .one-line .ensures .sound, omega (arith, e .before .line-end .ensures .high, e .if1 .left))
+    (c .before .before .before .before .before .before .before .before .one-line .ensures .done .sound, omega (arith, e .before .line-end .ensures .high, e .if1 .left))
 
 holds-requires-2 : tie.Need-holds-requires-2 Inv-loop μ-loop
 holds-requires-2 c κs = tt

@@ -1,6 +1,6 @@
 -- `make_room` writes the buffer out where it has less room than an answer takes.
-use mathlib.Core.Path.{refl, sym}
-use mathlib.Core.Bool.{false≢true}
+use mathlib.Core.Path.{refl, sym, _∙_}
+use mathlib.Core.Bool.{true≢false, false≢true}
 use native.Mathlib.Omega.{arith}
 use lib.Seq.{length-take-le}
 use borrow.Author.Needs.{needs}
@@ -11,7 +11,13 @@ add-if1 : tie.Need-add-if1
 add-if1 c = search needs
 
 returns : tie.Need-returns
-returns c = search needs
+returns c = record {
+  room = omega arith;
+  number = refl;
+  held = refl;
+  going = λ e. e;
+  stopped = λ e f. absurd (true≢false (sym e ∙ f));
+}
 
 slice-aggregate-write-all : tie.Need-slice-aggregate-write-all
 slice-aggregate-write-all c =
@@ -22,7 +28,13 @@ write-all-requires : tie.Need-write-all-requires
 write-all-requires c κs = search needs
 
 returns-2 : tie.Need-returns-2
-returns-2 c = search needs
+returns-2 c = record {
+  room = omega (arith, c .before .before .before .before .before .pre .size);
+  number = refl;
+  held = refl;
+  going = λ e. e;
+  stopped = λ e f. absurd (true≢false (sym e ∙ f));
+}
 
 returns-3 : tie.Need-returns-3
 returns-3 c = record {
@@ -30,6 +42,7 @@ returns-3 c = record {
   number = refl;
   held = refl;
   going = λ e. absurd (false≢true e);
+  stopped = λ _ _. refl;
 }
 
 pub make-room-spec : {M : Type 1} → statement M
