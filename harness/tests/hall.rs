@@ -4,9 +4,10 @@
 use harness::program::output;
 use reference::edges::{cases, check, script as script_of};
 use reference::generate::script;
+use reference::kernel::Store;
 use reference::profiles::PROFILES;
 use reference::random::Random;
-use reference::script::run_script;
+use reference::script::{answer_line, read_numbers, run_script, start};
 
 const SCRIPTS: u64 = 300;
 const LINES: usize = 300_000;
@@ -136,5 +137,87 @@ fn buffers() {
             }
         }
         compare("many lines", &input);
+    }
+}
+
+/// The sheet of the README's script, and of 01's, where all that was lent has ended.
+#[test]
+fn sheets() {
+    let lending = include_bytes!("../../docs/lending.script");
+    let sheet = String::from_utf8(output("sheet", lending.to_vec())).expect("text");
+    assert!(sheet.starts_with("line 6: delete_cap ended\n    2 7 11 13\n    2 7 21 22\n"));
+    assert!(sheet.ends_with("            45 46: no rights, window 80 to 90, moneyword 0, from 43\n"));
+    let example = include_bytes!("../../docs/example.script");
+    let text = "line 6: delete_cap ended\n    2 7 11 13\n    2 7 21 22\n\
+        object 0 1: process, size 0, cash 865\n\
+        \x20   5 9: all rights, window 0 to 0, moneyword 0, master\n";
+    assert_eq!(output("sheet", example.to_vec()), text.as_bytes());
+    assert_eq!(output("sheet", b"bad".to_vec()), b"0 2\n");
+}
+
+const RIGHTS: [&str; 13] = [
+    "READ",
+    "WRITE",
+    "CAP_INFO",
+    "DERIVE_CAP",
+    "DELETE_CAP",
+    "RENAME_OBJ",
+    "WITHDRAW",
+    "DEPOSIT",
+    "SUSPEND",
+    "RESUME",
+    "APPLY_LOCK",
+    "SEND",
+    "REVIVE",
+];
+
+fn rights_by_name(rights: u32) -> String {
+    let held = RIGHTS.iter().enumerate().filter(|(at, _)| rights >> at & 1 == 1);
+    match rights {
+        0 => "no rights".into(),
+        8_191 => "all rights".into(),
+        _ => held.map(|(_, name)| *name).collect::<Vec<_>>().join(" "),
+    }
+}
+
+/// What a sheet says of each object and capability of a store, in no order.
+fn facts(store: &Store) -> Vec<String> {
+    let objects = store.objects.iter().map(|(name, object)| {
+        let cash = format!(", cash {}", object.cash);
+        let (kind, cash) = if object.process { ("process", cash) } else { ("data", String::new()) };
+        format!("object {} {}: {kind}, size {}{cash}", name.volume, name.serial, object.size())
+    });
+    let capabilities = store.capabilities.iter().map(|((_, p1), c)| {
+        let from = c.parent.map_or("master".into(), |parent| format!("from {parent}"));
+        let window = format!("window {} to {}", c.start, c.end);
+        format!("{p1} {}: {}, {window}, moneyword {}, {from}", c.p2, rights_by_name(c.rights), c.moneyword)
+    });
+    let mut facts: Vec<String> = objects.chain(capabilities).collect();
+    facts.sort();
+    facts
+}
+
+/// The store that the reference has at the end of a script.
+fn last_store(script: &[u8]) -> Store {
+    let mut lines = script.split(|byte| *byte == 10).map(read_numbers);
+    let mut store = lines.next().flatten().and_then(start).expect("a good line one");
+    for numbers in lines {
+        answer_line(&mut store, numbers.as_deref());
+    }
+    store
+}
+
+/// The drawn objects and capabilities are those of the reference's store.
+#[test]
+fn sheets_of_random_scripts() {
+    for seed in 1..=4 {
+        for profile in PROFILES {
+            let input = script(profile, seed, 1_500);
+            let sheet = String::from_utf8(output("sheet", input.clone())).expect("text");
+            let drawn = sheet.lines().skip_while(|line| !line.starts_with("object "));
+            let mut drawn: Vec<String> = drawn.map(|line| line.trim_start().to_owned()).collect();
+            drawn.sort();
+            assert_eq!(drawn, facts(&last_store(&input)), "{} {seed}", profile.name);
+        }
     }
 }

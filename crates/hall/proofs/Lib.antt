@@ -1,4 +1,2 @@
 -- what a line and a turn leave of a run
 pub mod Going
--- the input buffer
-pub mod Holding

@@ -1,4 +1,3 @@
 -- Where a run of a script stands, and what the program keeps.
 pub mod State
-pub mod Input
 pub mod Runs

@@ -2,18 +2,20 @@
 // Here are the buffers, the reading and the writing; what a line means and does is in the libraries.
 ghost use Rattle.hall.specs.Runs.{Begins, Goes, Sound, Stands};
 
-mod input;
 mod lines;
 mod output;
 mod state;
 
 use fresh::fresh;
-use input::keep;
-use input::read_more;
+use layout::BYTES;
+use layout::LINKS;
+use layout::WORDS;
 use lines::last_line;
 use lines::play_window;
 use output::finish;
 use state::Run;
+use stream::keep;
+use stream::read_more;
 
 // Reads once, and plays the lines that have ended; at the end of the input, the last line.
 fn turn(
@@ -58,9 +60,9 @@ fn play_all(
 }
 
 fn main() {
-    let mut bytes = [0u8; 37642];
-    let mut links = [0u16; 3920];
-    let mut words = [0u32; 3021];
+    let mut bytes = [0u8; BYTES];
+    let mut links = [0u16; LINKS];
+    let mut words = [0u32; WORDS];
     let mut input = io::large_buffer();
     let mut out = io::large_buffer();
     // a store with no money, until line one says what it holds

@@ -1,0 +1,2 @@
+-- the store after line one
+pub mod Starting

@@ -1,0 +1,2 @@
+-- the input buffer
+pub mod Holding

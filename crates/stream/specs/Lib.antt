@@ -1,0 +1,2 @@
+-- The input buffer of a program that reads lines.
+pub mod Input
