@@ -13,6 +13,9 @@ mod state;
 
 use draw::put_objects;
 use fresh::fresh;
+use layout::BYTES;
+use layout::LINKS;
+use layout::WORDS;
 use lines::last_line;
 use lines::play_window;
 use output::put;
@@ -73,9 +76,9 @@ fn put_end(bytes: &[u8], links: &[u16], words: &[u32], out: &mut [u8], run: Run)
 }
 
 fn main() {
-    let mut bytes = [0u8; 37642];
-    let mut links = [0u16; 3920];
-    let mut words = [0u32; 3021];
+    let mut bytes = [0u8; BYTES];
+    let mut links = [0u16; LINKS];
+    let mut words = [0u32; WORDS];
     let mut input = io::large_buffer();
     let mut out = io::large_buffer();
     // a store with no money, until line one says what it holds

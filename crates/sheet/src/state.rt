@@ -1,4 +1,5 @@
 // Where a run stands.
+ghost use mathlib.Core.Bool.{false};
 ghost use mathlib.Core.Path.{_≡_};
 
 // Between two lines or two turns.
@@ -26,7 +27,9 @@ impl Run {
         }
     }
     // No more lines are played.
-    pub fn ended(self) -> Run {
+    pub fn ended(self) -> Run
+        ensures { λ r. ⌜ r .going ≡ false ⌝ }
+    {
         Run {
             number: self.number,
             at: self.at,
@@ -35,8 +38,10 @@ impl Run {
         }
     }
     // After a line, where the output has come to place `at`; there is no number after 4,294,967,295.
-    pub fn after(self, at: usize) -> Run {
-        if self.number < 4294967295 {
+    pub fn after(self, at: usize) -> Run
+        ensures { λ r. ⌜ r .at ≡ at ⌝ }
+    {
+        if self.number < 4294967294 {
             return Run {
                 number: self.number + 1,
                 at,
@@ -44,6 +49,11 @@ impl Run {
                 going: true,
             };
         }
-        self.ended()
+        Run {
+            number: self.number,
+            at,
+            held: self.held,
+            going: false,
+        }
     }
 }
