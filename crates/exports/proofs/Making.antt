@@ -2,10 +2,10 @@
 use Prim.Native.Nat.{ℕ}
 use mathlib.Core.Path.{_≡_, refl, subst}
 use mathlib.Core.List.{List}
-use Rattle.steps.specs.declared.request.Request.{Request}
-use Rattle.steps.specs.declared.request.Reply.{Reply}
-use Rattle.kernel.specs.Slices.{Slices}
-use Rattle.call.specs.Calls.{Calls}
+use Rattle.call_steps.specs.declared.request.Request.{Request}
+use Rattle.call_steps.specs.declared.request.Reply.{Reply}
+use Rattle.kernel_step.specs.Slices.{Slices}
+use Rattle.kernel_call.specs.Calls.{Calls}
 use Rattle.exports.specs.Numbers.{requestOf, numbersOf, Fitting, Kept, Exported}
 
 pub kept-by : {request text : List ℕ} {code : ℕ} {reply reply′ : List ℕ} {was is : Slices}

@@ -3,10 +3,10 @@ use Prim.Native.Nat.{ℕ}
 use mathlib.Core.Path.{_≡_}
 use mathlib.Core.List.{List, [], _∷_}
 use lib.ListN.{length, getD}
-use Rattle.steps.specs.declared.request.Request.{Request}
-use Rattle.steps.specs.declared.request.Reply.{Reply}
-use Rattle.kernel.specs.Slices.{Slices}
-use Rattle.call.specs.Calls.{Calls}
+use Rattle.call_steps.specs.declared.request.Request.{Request}
+use Rattle.call_steps.specs.declared.request.Reply.{Reply}
+use Rattle.kernel_step.specs.Slices.{Slices}
+use Rattle.kernel_call.specs.Calls.{Calls}
 
 -- the number, the caller, the capability presented, the name, size, flag, rights, the password drawn, the range, the
 -- sum, the lock

@@ -5,13 +5,13 @@ ghost use Rattle.layout.specs.WellFormed.{WellFormed};
 ghost use Rattle.layout.specs.Decides.{Decides};
 ghost use Rattle.values.specs.Words.{passwordOf};
 ghost use lib.ListN.{length};
-ghost use Rattle.fresh.specs.Fresh.{Fresh};
-ghost use Rattle.kernel.specs.Slices.{slices};
+ghost use Rattle.kernel_fresh.specs.Fresh.{Fresh};
+ghost use Rattle.kernel_step.specs.Slices.{slices};
 ghost use Rattle.exports.specs.Numbers.{requestOf, numbersOf, Exported};
-use steps::request::Capability;
-use steps::request::Name;
-use steps::request::Reply;
-use steps::request::Request;
+use call_steps::request::Capability;
+use call_steps::request::Name;
+use call_steps::request::Reply;
+use call_steps::request::Request;
 use values::window::Window;
 
 // Whether the store is well formed.
@@ -19,7 +19,7 @@ use values::window::Window;
 pub extern "C" fn store_check(bytes: &[u8], links: &[u16], words: &[u32]) -> bool
     ensures { λ r. ⌜ Decides (WellFormed (now (bytes .entry)) (now (links .entry)) (now (words .entry))) r ⌝ }
 {
-    wellformed::check(bytes, links, words)
+    kernel_check::check(bytes, links, words)
 }
 
 // Makes a fresh store.
@@ -35,7 +35,7 @@ pub extern "C" fn store_fresh(
     ensures { λ r. ⌜ Fresh supply (passwordOf (p1 ∷ p2 ∷ [])) (now (bytes .entry)) (now (links .entry)) (now (words .entry))
         (now (bytes .exit)) (now (links .exit)) (now (words .exit)) r ⌝ }
 {
-    fresh::fresh(supply, [p1, p2], bytes, links, words)
+    kernel_fresh::fresh(supply, [p1, p2], bytes, links, words)
 }
 
 // The 19 numbers of a request.
@@ -113,7 +113,7 @@ pub extern "C" fn store_call(
     if reply.len() != 9 {
         return 2;
     }
-    let r = call::call(
+    let r = kernel_call::call(
         bytes,
         links,
         words,
@@ -149,7 +149,7 @@ pub extern "C" fn store_step(
     if reply.len() != 9 {
         return 2;
     }
-    let r = kernel::step(
+    let r = kernel_step::step(
         bytes,
         links,
         words,

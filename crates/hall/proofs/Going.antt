@@ -8,9 +8,9 @@ use lib.ListN.{length}
 use Rattle.rules.proofs.Tests.{by-bool}
 use Rattle.rules.specs.Store.{Password}
 use Rattle.layout.specs.WellFormed.{Sized, WellFormed}
-use Rattle.fresh.specs.Fresh.{Fresh}
-use Rattle.play.specs.Plays.{Unchanged}
-use Rattle.play.specs.Starts.{Starts}
+use Rattle.kernel_fresh.specs.Fresh.{Fresh}
+use Rattle.script_play.specs.Plays.{Unchanged}
+use Rattle.script_play.specs.Starts.{Starts}
 use Rattle.hall.specs.declared.state.Run.{Run}
 use Rattle.hall.specs.State.{begun, opened, holding, ended}
 use Rattle.hall.specs.Runs.{Sound, Going, Stands, Begins, Roomy, LineOne, LineLater, LineDone, OneLine, WindowDone}

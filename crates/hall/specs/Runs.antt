@@ -6,11 +6,11 @@ use mathlib.Core.List.{List, [], _∷_}
 use lib.ListN.{length}
 use Rattle.layout.specs.View.{view}
 use Rattle.layout.specs.WellFormed.{WellFormed}
-use Rattle.text.specs.Numeral.{lineOf}
-use Rattle.text.specs.Pasted.{Put}
-use Rattle.answers.specs.Ends.{totalsLine}
-use Rattle.play.specs.Plays.{Plays}
-use Rattle.play.specs.Starts.{Starts}
+use Rattle.script_text.specs.Numeral.{lineOf}
+use Rattle.script_text.specs.Pasted.{Put}
+use Rattle.script_answers.specs.Ends.{totalsLine}
+use Rattle.script_play.specs.Plays.{Plays}
+use Rattle.script_play.specs.Starts.{Starts}
 use Rattle.hall.specs.declared.state.Run.{Run}
 use Rattle.hall.specs.State.{opened, ended}
 

@@ -3,9 +3,9 @@ ghost use Rattle.layout.specs.WellFormed.{WellFormed};
 ghost use Rattle.hall.specs.Runs.{Going, LineOne, LaterAsks, LineLater, LineDone, OneLine, WindowDone};
 use crate::output::make_room;
 use crate::state::Run;
-use play::line::play_line;
-use play::start::start;
-use text::lines::line_end;
+use script_play::line::play_line;
+use script_play::start::start;
+use script_text::lines::line_end;
 
 // Line one: "if bad or absent, `0 2` is all it writes", so no more lines are played after a bad one.
 fn first_line(bytes: &mut [u8], links: &mut [u16], words: &mut [u32], line: &[u8], run: Run) -> Run

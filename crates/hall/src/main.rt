@@ -6,16 +6,16 @@ mod lines;
 mod output;
 mod state;
 
-use fresh::fresh;
+use kernel_fresh::fresh;
 use layout::BYTES;
 use layout::LINKS;
 use layout::WORDS;
 use lines::last_line;
 use lines::play_window;
 use output::finish;
+use script_stream::keep;
+use script_stream::read_more;
 use state::Run;
-use stream::keep;
-use stream::read_more;
 
 // Reads once, and plays the lines that have ended; at the end of the input, the last line.
 fn turn(

@@ -1,8 +1,8 @@
 // The output buffer, and the last line of the output.
 ghost use Rattle.hall.specs.Runs.{Sound, Placed, Roomy, EndAsks, EndPut};
 use crate::state::Run;
-use answers::ends::bad_first_line;
-use answers::ends::totals_line;
+use script_answers::ends::bad_first_line;
+use script_answers::ends::totals_line;
 
 // Writes out what the buffer holds, where an answer may not fit after it. A failed write ends the run.
 pub fn make_room(out: &[u8], run: Run) -> Run

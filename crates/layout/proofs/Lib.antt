@@ -21,6 +21,7 @@ pub mod FreeCaps
 pub mod Room
 pub mod Free
 pub mod Formed
+pub mod Plain
 pub mod Asked
 -- answers that are right both ways
 pub mod Deciding

@@ -8,7 +8,7 @@ use Rattle.rules.specs.Valid.{Valid}
 use Rattle.layout.specs.Layout as Layout
 use Rattle.layout.specs.Rows.{flagOf, suspendedOf, waitingOf, terminatedOf, countOf, lengthOf, masterOf}
 use Rattle.layout.specs.View.{isSet, isProcess, view}
-use Rattle.layout.specs.Shape.{Shape}
+use Rattle.layout.specs.Shape.{Blocks, Shape}
 
 pub record Sized (b l w : List ℕ) : Type 0 where
   pub bytes : length b ≡ Layout.BYTES
@@ -41,4 +41,12 @@ pub record WellFormed (b l w : List ℕ) : Type 0 where
   pub shape : Shape l
   -- all other ranges; unique names and p1; a master's window is 0 to the size; every climb by parents ends at that
   -- master; child in parent; lockwords; the money total
+  pub valid : Valid (view b l w)
+
+-- what a function asks of a store where it looks at no tree's links: a well-formed store has it
+pub record Plain (b l w : List ℕ) : Type 0 where
+  pub sized : Sized b l w
+  pub cells : Cells b l
+  -- each block is in exactly one chain, and an object's has the blocks that its size needs
+  pub blocks : Blocks l
   pub valid : Valid (view b l w)

@@ -1,4 +1,6 @@
 -- 01 as definitions, in 01's order: what a reader of the proofs must believe.
+pub mod Limit
+pub mod Code
 pub mod Slots
 pub mod Store
 pub mod Valid

@@ -3,10 +3,10 @@ use Prim.Native.Nat.{ℕ}
 use mathlib.Core.Bool.{Bool, true, false}
 use mathlib.Core.List.{List}
 use Rattle.rules.specs.Store.{Password}
-use Rattle.fresh.specs.Fresh.{Fresh}
+use Rattle.kernel_fresh.specs.Fresh.{Fresh}
 use Rattle.layout.specs.WellFormed.{Sized, WellFormed}
-use Rattle.play.specs.Plays.{Unchanged}
-use Rattle.play.specs.Starts.{Starts}
+use Rattle.script_play.specs.Plays.{Unchanged}
+use Rattle.script_play.specs.Starts.{Starts}
 use Rattle.rules.proofs.Tests.{by-bool}
 
 unchanged-formed : {b l w b′ l′ w′ : List ℕ} → Unchanged b l w b′ l′ w′ → WellFormed b l w → WellFormed b′ l′ w′

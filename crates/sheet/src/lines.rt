@@ -7,10 +7,10 @@ use crate::ended::put_all_ended;
 use crate::output::put;
 use crate::output::put_number;
 use crate::state::Run;
-use play::line::play_line;
-use play::start::start;
-use text::lines::line_end;
-use text::read::read_line;
+use script_play::line::play_line;
+use script_play::start::start;
+use script_text::lines::line_end;
+use script_text::read::read_line;
 
 // The call number that a line says, and 0 where it says none.
 fn call_number(line: &[u8]) -> u32 {

@@ -12,7 +12,7 @@ mod rights;
 mod state;
 
 use draw::put_objects;
-use fresh::fresh;
+use kernel_fresh::fresh;
 use layout::BYTES;
 use layout::LINKS;
 use layout::WORDS;
@@ -20,9 +20,9 @@ use lines::last_line;
 use lines::play_window;
 use output::put;
 use output::write_out;
+use script_stream::keep;
+use script_stream::read_more;
 use state::Run;
-use stream::keep;
-use stream::read_more;
 
 // Reads once, and plays the lines that have ended; at the end of the input, the last line.
 fn turn(

@@ -3,7 +3,7 @@ use mathlib.Core.Path.{_≡_, refl}
 use native.Mathlib.Omega.{arith}
 use lib.ListN.{length}
 use borrow.Author.Needs.{needs}
-use Rattle.call.proofs.Calling.{calls-step}
+use Rattle.kernel_call.proofs.Calling.{calls-step}
 use Rattle.exports.specs.Numbers.{Fitting}
 use Rattle.exports.proofs.Making.{made-by, kept-by}
 use Rattle.exports.proofs.store_step.Statement.{statement}

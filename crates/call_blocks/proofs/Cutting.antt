@@ -1,0 +1,78 @@
+-- The run of `too_few` and of `take`, as the code comes to it: by whether n is 0.
+use Prim.Native.Nat.{ℕ, zero, suc, _+_, _-_, _≤_, _<_}
+use mathlib.Core.Path.{_≡_, refl, sym, ap, _∙_}
+use mathlib.Core.Logic.{_≢_}
+use mathlib.Core.Bool.{false}
+use mathlib.Core.List.{List}
+use native.Mathlib.Omega.{arith}
+use lib.Dec.{eqb}
+use lib.ListN.{getD, set}
+use Rattle.layout.specs.Layout as Layout
+use Rattle.layout.specs.Rows.{nextBlockOf}
+use Rattle.layout.proofs.Field.{field-in}
+use Rattle.call_blocks.specs.Taking.{later, freeHead, freeBlock, lastFree, tooFew, takenLinks, Enough}
+use Rattle.call_blocks.proofs.Walking.{Rest, rest-high, rest-next, rest-low, next-zero, enough-rest}
+
+pub few-none : (l : List ℕ) (n : ℕ) → n ≡ 0 → false ≡ tooFew l n
+unfolding tooFew
+few-none l zero e = refl
+few-none l (suc n) e = absurd (omega arith)
+
+pub few-some : (l : List ℕ) (n : ℕ) → n ≢ 0 → (r : ℕ) → r ≡ freeBlock l (n - 1) → eqb r 0 ≡ tooFew l n
+unfolding tooFew
+few-some l zero h r e = absurd (h refl)
+few-some l (suc n) h r e =
+    let p : suc n - 1 ≡ n = omega arith in
+    ap (λ x. eqb x 0) (e ∙ ap (freeBlock l) p)
+
+-- ---- the last of the n blocks
+
+pub last-free : (l : List ℕ) (n : ℕ) → n ≢ 0 → lastFree l n ≡ freeBlock l (n - 1)
+unfolding lastFree
+last-free l zero h = absurd (h refl)
+last-free l (suc m) h =
+    let p : m ≡ suc m - 1 = omega arith in
+    ap (freeBlock l) p
+
+later-rest : (next : ℕ → ℕ) → next 0 ≡ 0 → (m block n : ℕ) → m < n → Rest next block n
+    → Rest next (later next m block) (n - m)
+unfolding later
+later-rest next z zero block n h r =
+    let e : n - 0 ≡ n = omega arith in
+    rw e r
+later-rest next z (suc m) block n h r =
+    let e : n - 1 - m ≡ n - suc m = omega arith in
+    rw e at (later-rest next z m (next block) (n - 1) (omega arith) (rest-next z r))
+
+pub record Block (k : ℕ) : Type 0 where
+  pub low : 1 ≤ k
+  pub high : k ≤ 512
+
+pub last-block : {l : List ℕ} {n : ℕ} → Enough l n → n ≢ 0 → (k : ℕ) → k ≡ freeBlock l (n - 1) → Block k
+last-block {l} {n} a h k e =
+    let r = later-rest (nextBlockOf l) (next-zero l) (n - 1) (freeHead l) n (omega arith) (enough-rest a) in
+    rw e (record { low = rest-low r (omega arith); high = rest-high r })
+
+-- ---- the chain cut
+
+pub taken-none : (l : List ℕ) (o n : ℕ) → n ≡ 0 → set l (Layout.«FIRST_BLOCK» + o) 0 ≡ takenLinks l o n
+unfolding takenLinks
+taken-none l o zero e = refl
+taken-none l o (suc n) e = absurd (omega arith)
+
+cut : List ℕ → ℕ → ℕ → ℕ → List ℕ
+cut l o k v = set
+    (set (set l Layout.«FREE_BLOCKS» v) (Layout.«NEXT_BLOCK» + k) 0) (Layout.«FIRST_BLOCK» + o) (freeHead l)
+
+pub taken-some : (l : List ℕ) (o n : ℕ) → n ≢ 0 → (k : ℕ) → k ≡ freeBlock l (n - 1) → Block k
+    → set
+    (set (set l Layout.«FREE_BLOCKS» (getD l (Layout.«NEXT_BLOCK» + k) 0)) (Layout.«NEXT_BLOCK» + k) 0)
+    (Layout.«FIRST_BLOCK» + o)
+    (freeHead l)
+    ≡ takenLinks l o n
+unfolding takenLinks cut
+taken-some l o zero h k e b = absurd (h refl)
+taken-some l o (suc n) h k e b =
+    let p : suc n - 1 ≡ n = omega arith in
+    ap (cut l o k) (sym (field-in 512 Layout.«NEXT_BLOCK» l k (b .low) (b .high)))
+    ∙ ap (λ x. cut l o x (nextBlockOf l x)) (e ∙ ap (freeBlock l) p)

@@ -1,0 +1,54 @@
+-- The own part of delete_cap, exactly. 01: "no more. The capability and all its descendants end. With a master the
+-- object ends too". The slices are those that the fee left; `k` is the slot of the capability presented.
+use Prim.Native.Nat.{ℕ, _≤_}
+use mathlib.Core.Path.{_≡_}
+use mathlib.Core.Bool.{true, false}
+use mathlib.Core.List.{List}
+use lib.Dec.{eqb}
+use lib.ListN.{length, replicate}
+use Rattle.rules.specs.Store.{moneyIn}
+use Rattle.layout.specs.Rows.{ownerOf, parentOf}
+use Rattle.layout.specs.View.{view}
+use Rattle.layout.specs.Shape.{Shape}
+use Rattle.layout.specs.WellFormed.{Sized, Cells}
+use Rattle.call_steps.specs.Run.{Held, Ran, over}
+use Rattle.call_prune.specs.Links.{prunedLinks, deletedLinks}
+use Rattle.call_ending.specs.Forfeit.{endedWords}
+use Rattle.call_ending.specs.Links.{endedLinks}
+
+-- a master: its descendants end, and then its object with it
+unfoldable pub masterLinks : List ℕ → ℕ → List ℕ
+masterLinks l k = endedLinks (prunedLinks l k) (ownerOf l k) k
+
+unfoldable pub masterWords : List ℕ → List ℕ → List ℕ → ℕ → List ℕ
+masterWords b l w k = endedWords b w (ownerOf l k) k
+
+unfoldable pub deleteRun : List ℕ → List ℕ → List ℕ → ℕ → Ran
+deleteRun b l w k = elim (eqb (parentOf l k) 0) [
+  | true ↦ over 0 b (masterLinks l k) (masterWords b l w k)
+  | false ↦ over 0 b (deletedLinks l k) w
+]
+
+-- ---- what the code asks, and leaves
+
+pub record DeleteAsks (b l w : List ℕ) (k : ℕ) : Type 0 where
+  pub sized : Sized b l w
+  pub cells : Cells b l
+  pub shape : Shape l
+  pub held : Held l k
+  -- the house has room for the forfeit
+  pub total : moneyIn (view b l w) ≤ 4294967295
+
+-- of a master
+pub record MasterAsks (b l w : List ℕ) (k : ℕ) : Type 0 where
+  pub asks : DeleteAsks b l w k
+  pub top : parentOf l k ≡ 0
+
+pub record MasterEnds (b l w : List ℕ) (k : ℕ) (l′ w′ : List ℕ) : Type 0 where
+  pub links : l′ ≡ masterLinks l k
+  pub words : w′ ≡ masterWords b l w k
+
+-- the run; "A done delete or rename leaves the scratch all zero"
+pub record Deletes (b l w scratch : List ℕ) (k r : ℕ) (l′ w′ scratch′ : List ℕ) : Type 0 where
+  pub run : over r b l′ w′ ≡ deleteRun b l w k
+  pub zeros : scratch′ ≡ replicate (length scratch) 0

@@ -1,0 +1,98 @@
+-- derive_cap's own part, exactly: its refusals by tests on the cells, and what it does by stores to them. The slices are
+-- those that the fee left; `k` is the slot of the capability presented.
+use Prim.Native.Nat.{ℕ, _+_, _≤_}
+use mathlib.Core.Path.{_≡_}
+use mathlib.Core.Logic.{_≢_}
+use mathlib.Core.List.{List, [], _∷_}
+use lib.Dec.{eqb}
+use lib.ListN.{length, set}
+use Rattle.rules.specs.Slots.{some}
+use Rattle.rules.specs.Store.{Password, Window, Cap}
+use Rattle.rules.specs.Rights.{both}
+use Rattle.rules.specs.Refusals.{_when_, first}
+use Rattle.rules.specs.Calls.{moved}
+use Rattle.layout.specs.Layout as Layout
+use Rattle.layout.specs.Rows.{masterOf, ownerOf, firstChildOf, rightsOf, moneyOf, startOf, endOf}
+use Rattle.layout.specs.View.{view}
+use Rattle.layout.specs.WellFormed.{Sized}
+use Rattle.call_steps.specs.Run.{Ran, settled}
+use Rattle.call_steps.specs.Replies.{handed}
+use Rattle.call_steps.specs.Tests.{ObjectSlot, CapSlot, taken}
+use Rattle.call_grow.specs.declared.cap.NewCap.{NewCap}
+use Rattle.call_grow.specs.Made.{capOf, freeCap, newLinks, newWords}
+
+-- ---- the child
+
+-- the rules' `child` of the capability in slot k, by the cells
+unfoldable pub childIn : List ℕ → List ℕ → ℕ → ℕ → Window → Password → Cap
+childIn l w k rights range drawn = record {
+  object = ownerOf l k;
+  parent = k;
+  password = drawn;
+  window = moved range (record { start = startOf w k; end = endOf w k });
+  rights = both (rightsOf l k) rights;
+}
+
+pub record ChildAsks (l w : List ℕ) (k rights : ℕ) : Type 0 where
+  pub links : length l ≡ Layout.LINKS
+  pub words : length w ≡ Layout.WORDS
+  pub slot : CapSlot k
+  pub rights-fit : rights ≤ 8191
+
+-- r is that child, to be put before the first one
+pub record IsChild (l w : List ℕ) (k rights : ℕ) (range : Window) (drawn : Password) (r : NewCap) : Type 0 where
+  pub cap : capOf r ≡ childIn l w k rights range drawn
+  pub next : r .next ≡ firstChildOf l k
+
+-- ---- the child linked
+
+-- the links with the record x in slot i, the first free one, before `next`, which was the first child of k
+unfoldable pub derivedLinks : List ℕ → ℕ → ℕ → Cap → ℕ → List ℕ
+derivedLinks l i k x next =
+    set (set (newLinks l i x next) (Layout.«FIRST_CHILD» + k) i) (Layout.«PREV_CAP» + next) i
+
+pub record AddAsks (l w : List ℕ) (k next : ℕ) : Type 0 where
+  pub links : length l ≡ Layout.LINKS
+  pub words : length w ≡ Layout.WORDS
+  pub slot : CapSlot k
+  pub next-high : next ≤ 512
+  -- there is a free record
+  pub low : 1 ≤ freeCap l
+  pub high : freeCap l ≤ 512
+
+-- l′ and w′ are what is left of the slices l and w; the child has the parent's moneyword
+pub record Adds (l w : List ℕ) (k : ℕ) (x : Cap) (next : ℕ) (l′ w′ : List ℕ) : Type 0 where
+  pub links : l′ ≡ derivedLinks l (freeCap l) k x next
+  pub words : w′ ≡ newWords w (freeCap l) x (moneyOf w k)
+
+-- ---- the call: 12 p1 is taken in the object; 13 512 capabilities live, so that no record is free
+
+unfoldable pub deriveStop : List ℕ → List ℕ → List ℕ → ℕ → ℕ → ℕ
+deriveStop b l w k p1 = first
+    (12 when some 512 (taken (view b l w) (ownerOf l k) p1)
+    ∷ 13 when eqb (freeCap l) 0
+    ∷ [])
+
+-- the child made, and handed back as drawn
+unfoldable pub derived : List ℕ → List ℕ → List ℕ → ℕ → Cap → Ran
+derived b l w k x = record {
+  answer = handed (view b l w .object (ownerOf l k) .name) (x .password);
+  bytes = b;
+  links = derivedLinks l (freeCap l) k x (firstChildOf l k);
+  words = newWords w (freeCap l) x (moneyOf w k);
+}
+
+unfoldable pub deriveRun : List ℕ → List ℕ → List ℕ → ℕ → ℕ → Window → Password → Ran
+deriveRun b l w k rights range drawn =
+    settled (deriveStop b l w k (drawn .p1)) b l w (derived b l w k (childIn l w k rights range drawn))
+
+-- what the code asks
+pub record DeriveAsks (b l w : List ℕ) (k rights : ℕ) : Type 0 where
+  pub sized : Sized b l w
+  pub slot : CapSlot k
+  -- the object that the capability is for lives
+  pub object : ObjectSlot (ownerOf l k)
+  pub live : masterOf l (ownerOf l k) ≢ 0
+  pub child-high : firstChildOf l k ≤ 512
+  pub free-high : freeCap l ≤ 512
+  pub rights-fit : rights ≤ 8191

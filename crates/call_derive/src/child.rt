@@ -1,0 +1,61 @@
+// "The child has the parent's moneyword, the rights in both sets, and each end of the range moved to the nearest point of
+// the parent's window."
+ghost use Rattle.values.specs.Words.{passwordOf, windowOf};
+ghost use Rattle.call_grow.specs.Made.{capOf};
+ghost use Rattle.call_derive.specs.Runs.{ChildAsks, IsChild, AddAsks, Adds};
+use call_grow::cap::NewCap;
+use call_grow::cap::new_cap;
+use call_steps::widen::slot;
+use layout::END;
+use layout::FIRST_CHILD;
+use layout::MONEY;
+use layout::OWNER;
+use layout::PREV_CAP;
+use layout::RIGHTS;
+use layout::START;
+use values::moneyword::Moneyword;
+use values::rights::Rights;
+use values::window::Window;
+
+// The child of the capability in slot k with these rights, this range and this password; its next sibling is to be the
+// first child.
+pub fn child_of(
+    links: &[u16],
+    words: &[u32],
+    k: usize,
+    rights: u32,
+    range: Window,
+    drawn: [u32; 2],
+) -> NewCap
+    requires { ⌜ ChildAsks (now links) (now words) k rights ⌝ }
+    ensures { λ r. ⌜ IsChild (now (links .entry)) (now (words .entry)) k rights (windowOf range) (passwordOf drawn) r ⌝ }
+{
+    let window = Window {
+        start: words[START + k],
+        end: words[END + k],
+    };
+    let own = Rights(links[RIGHTS + k]);
+    let asked = Rights(rights as u16);
+    NewCap {
+        object: links[OWNER + k],
+        parent: k as u16,
+        next: links[FIRST_CHILD + k],
+        rights: own.both(asked),
+        password: drawn,
+        window: window.moved(range),
+    }
+}
+
+// The record x is made, with the moneyword of the capability in slot k, and becomes its first child.
+pub fn add_child(links: &mut [u16], words: &mut [u32], k: usize, x: NewCap)
+    requires { ⌜ AddAsks (now links) (now words) k (x .next) ⌝ }
+    ensures { λ _. ⌜ Adds (now (links .entry)) (now (words .entry)) k (capOf x) (x .next) (now (links .exit))
+        (now (words .exit)) ⌝ }
+{
+    let next = slot(x.next);
+    let amount = words[MONEY + k];
+    let i = new_cap(links, words, x, Moneyword(amount));
+    let link = i as u16;
+    links[FIRST_CHILD + k] = link;
+    links[PREV_CAP + next] = link;
+}

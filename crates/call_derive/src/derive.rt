@@ -1,0 +1,41 @@
+// "derive_cap: 12 p1 is taken in the object; 13 512 capabilities live."
+ghost use Rattle.values.specs.Words.{passwordOf, windowOf};
+ghost use Rattle.call_steps.specs.Replies.{Replies};
+ghost use Rattle.call_derive.specs.Runs.{DeriveAsks, deriveRun};
+use crate::child::add_child;
+use crate::child::child_of;
+use call_steps::objects::name_at;
+use call_steps::request::Reply;
+use call_steps::taken::p1_taken;
+use call_steps::widen::slot;
+use layout::FREE_CAPS;
+use layout::OWNER;
+use values::window::Window;
+
+// A child of the capability in slot k.
+pub fn derive_cap(
+    bytes: &[u8],
+    links: &mut [u16],
+    words: &mut [u32],
+    k: usize,
+    rights: u32,
+    range: Window,
+    drawn: [u32; 2],
+) -> Reply
+    requires { ⌜ DeriveAsks (now bytes) (now links) (now words) k rights ⌝ }
+    ensures { λ r. ⌜ Replies r (now (bytes .entry)) (now (links .exit)) (now (words .exit))
+        (deriveRun (now (bytes .entry)) (now (links .entry)) (now (words .entry)) k rights (windowOf range)
+        (passwordOf drawn)) ⌝ }
+{
+    let o = slot(links[OWNER + k]);
+    if p1_taken(links, words, o, drawn[0]) {
+        return Reply::refused(12);
+    }
+    if links[FREE_CAPS] == 0 {
+        return Reply::refused(13);
+    }
+    let name = name_at(bytes, links, o);
+    let x = child_of(links, words, k, rights, range, drawn);
+    add_child(links, words, k, x);
+    Reply::hands_back(name, drawn)
+}

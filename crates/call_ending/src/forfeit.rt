@@ -1,0 +1,58 @@
+// "its moneyword, cash and box sums go to the house": here moneyword becomes cash.
+ghost use mathlib.Core.Path.{_≡_};
+ghost use Rattle.call_ending.specs.Forfeit.{sumsFrom, holdings, forfeited, endedWords, SumsAsk, HoldsAsk, ForfeitAsks};
+use layout::CASH;
+use layout::COUNT;
+use layout::FLAG;
+use layout::HOUSE;
+use layout::MONEY;
+use layout::SUM;
+use values::cash::Cash;
+use values::moneyword::Moneyword;
+
+// The sums of n messages from slot i on.
+fn sums_from(words: &[u32], n: usize, i: usize) -> u32
+    requires { ⌜ SumsAsk (now words) n i ⌝ }
+    ensures { λ r. ⌜ r ≡ sumsFrom (now (words .entry)) n i ⌝ }
+{
+    let mut total: u32 = 0;
+    let mut left = n;
+    let mut at = i;
+    while 0 < left {
+        total += words[SUM + at];
+        at += 1;
+        left -= 1;
+    }
+    total
+}
+
+// Cash and box sums of the object in slot o.
+fn holdings(bytes: &[u8], words: &[u32], o: usize) -> Cash
+    requires { ⌜ HoldsAsk (now bytes) (now words) o ⌝ }
+    ensures { λ r. ⌜ r .0 ≡ holdings (now (bytes .entry)) (now (words .entry)) o ⌝ }
+{
+    if bytes[FLAG + o] == 0 {
+        return Cash(0);
+    }
+    let sums = sums_from(words, bytes[COUNT + o] as usize, o * 4);
+    Cash(words[CASH + o] + sums)
+}
+
+// With the moneyword of its master m.
+fn forfeit(bytes: &[u8], words: &[u32], o: usize, m: usize) -> Cash
+    requires { ⌜ ForfeitAsks (now bytes) (now words) o m ⌝ }
+    ensures { λ r. ⌜ r .0 ≡ forfeited (now (bytes .entry)) (now (words .entry)) o m ⌝ }
+{
+    let held = holdings(bytes, words, o);
+    let purse = Moneyword(words[MONEY + m]);
+    Cash(purse.0 + held.0)
+}
+
+// All that goes to the house.
+pub fn to_house(bytes: &[u8], words: &mut [u32], o: usize, m: usize)
+    requires { ⌜ ForfeitAsks (now bytes) (now words) o m ⌝ }
+    ensures { λ _. ⌜ now (words .exit) ≡ endedWords (now (bytes .entry)) (now (words .entry)) o m ⌝ }
+{
+    let sum = forfeit(bytes, words, o, m);
+    words[HOUSE] = words[HOUSE] + sum.0;
+}

@@ -1,0 +1,55 @@
+// "receive: 15 the box is empty. Takes the oldest; its sum joins the cash." "A done read or receive writes its bytes at
+// the buffer's front and changes no later byte."
+ghost use Rattle.call_mail.specs.Runs.{MoveAsks, Moved, ReceiveAsks, Receives};
+use crate::copy::copy;
+use crate::copy::shift;
+use crate::copy::shift_words;
+use layout::CASH;
+use layout::COUNT;
+use layout::LENGTH;
+use layout::SUM;
+use layout::TEXT;
+
+pub struct Received {
+    pub code: u32,
+    pub sum: u32,
+    pub count: usize,
+}
+
+// The three messages after slot i move down one place: texts, lengths and sums.
+fn move_down(bytes: &mut [u8], words: &mut [u32], i: usize)
+    requires { ⌜ MoveAsks (now bytes) (now words) i ⌝ }
+    ensures { λ _. ⌜ Moved (now (bytes .entry)) (now (words .entry)) i (now (bytes .exit)) (now (words .exit)) ⌝ }
+{
+    shift(bytes, TEXT + i * 16, 16, 48);
+    shift(bytes, LENGTH + i, 1, 3);
+    shift_words(words, SUM + i, 1, 3);
+}
+
+// The oldest message of the caller, in slot me: its bytes to the buffer's front, its sum to the caller's cash.
+pub fn receive(bytes: &mut [u8], words: &mut [u32], buffer: &mut [u8], me: usize) -> Received
+    requires { ⌜ ReceiveAsks (now bytes) (now words) (now buffer) me ⌝ }
+    ensures { λ r. ⌜ Receives (now (bytes .entry)) (now (words .entry)) (now (buffer .entry)) me
+        (r .code) (r .sum) (r .count) (now (bytes .exit)) (now (words .exit)) (now (buffer .exit)) ⌝ }
+{
+    let count = bytes[COUNT + me];
+    if count == 0 {
+        return Received {
+            code: 15,
+            sum: 0,
+            count: 0,
+        };
+    }
+    let i = me * 4;
+    let length = bytes[LENGTH + i] as usize;
+    let sum = words[SUM + i];
+    copy(bytes, TEXT + i * 16, buffer, 0, length);
+    words[CASH + me] = words[CASH + me] + sum;
+    move_down(bytes, words, i);
+    bytes[COUNT + me] = count - 1;
+    Received {
+        code: 0,
+        sum: sum,
+        count: length,
+    }
+}

@@ -1,0 +1,59 @@
+// "send: 8; 9 the caller's cash is below the sum; 14 four messages in the box. The sum travels in the message; the
+// target's waiting mark clears."
+ghost use mathlib.Core.Path.{_≡_};
+ghost use Rattle.call_steps.specs.Run.{over};
+ghost use Rattle.call_mail.specs.Runs.{PlaceAsks, SendAsks, Placed, sendRun};
+use crate::copy::copy;
+use call_steps::objects::is_process;
+use call_steps::target::target;
+use layout::CASH;
+use layout::COUNT;
+use layout::LENGTH;
+use layout::SUM;
+use layout::TEXT;
+use layout::WAITING;
+use values::cash::Cash;
+
+// The message in slot i: its text, its length and its sum.
+fn place(bytes: &mut [u8], words: &mut [u32], text: &[u8], i: usize, sum: u32)
+    requires { ⌜ PlaceAsks (now bytes) (now words) (now text) i ⌝ }
+    ensures { λ _. ⌜ Placed (now (bytes .entry)) (now (words .entry)) (now (text .entry)) i sum
+        (now (bytes .exit)) (now (words .exit)) ⌝ }
+{
+    copy(text, 0, bytes, TEXT + i * 16, text.len());
+    bytes[LENGTH + i] = text.len() as u8;
+    words[SUM + i] = sum;
+}
+
+// The caller, in slot me, sends the text and the sum to the object that capability k is for.
+pub fn send(
+    bytes: &mut [u8],
+    links: &[u16],
+    words: &mut [u32],
+    text: &[u8],
+    me: usize,
+    k: usize,
+    sum: u32,
+) -> u32
+    requires { ⌜ SendAsks (now bytes) (now links) (now words) (now text) me k ⌝ }
+    ensures { λ r. ⌜ over r (now (bytes .exit)) (now (links .entry)) (now (words .exit))
+        ≡ sendRun (now (bytes .entry)) (now (links .entry)) (now (words .entry)) (now (text .entry)) me k sum ⌝ }
+{
+    let o = target(links, k);
+    if is_process(bytes, links, o) {
+        if Cash(words[CASH + me]).below(sum) {
+            return 9;
+        }
+        let count = bytes[COUNT + o];
+        if 4 <= count {
+            return 14;
+        }
+        let left = Cash(words[CASH + me]).less(sum);
+        words[CASH + me] = left.0;
+        place(bytes, words, text, o * 4 + count as usize, sum);
+        bytes[COUNT + o] = count + 1;
+        bytes[WAITING + o] = 0;
+        return 0;
+    }
+    8
+}

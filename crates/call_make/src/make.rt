@@ -1,0 +1,109 @@
+// "make_obj: 12 the serial is taken on that volume; 13 64 objects or 512 capabilities live, or too few free blocks. Its
+// master has the whole window, moneyword 0 and the rights given."
+ghost use Rattle.values.specs.Words.{passwordOf};
+ghost use Rattle.call_steps.specs.Request.{nameOf};
+ghost use Rattle.call_steps.specs.Replies.{Replies};
+ghost use Rattle.call_make.specs.Runs.{MasterAsks, IsMaster, HoldAsks, Holds, RecordAsks, Records, PlaceAsks};
+ghost use Rattle.call_make.specs.Runs.{Places, MakeAsks, makeRun};
+use crate::record::record_bytes;
+use crate::record::record_links;
+use crate::record::record_words;
+use crate::space::no_space;
+use call_blocks::clear::clear;
+use call_blocks::take::take;
+use call_grow::cap::NewCap;
+use call_grow::cap::new_cap;
+use call_steps::objects::find_object;
+use call_steps::request::Name;
+use call_steps::request::Reply;
+use call_steps::request::Request;
+use call_steps::widen::slot;
+use layout::FREE_OBJECTS;
+use values::blocks::blocks_of;
+use values::moneyword::Moneyword;
+use values::rights::Rights;
+use values::window::Window;
+
+// The master of the object in slot o.
+fn master_of(o: usize, size: u32, rights: u32, drawn: [u32; 2]) -> NewCap
+    requires { ⌜ MasterAsks o rights ⌝ }
+    ensures { λ r. ⌜ IsMaster o size rights (passwordOf drawn) r ⌝ }
+{
+    NewCap {
+        object: o as u16,
+        parent: 0,
+        next: 0,
+        rights: Rights(rights as u16),
+        password: drawn,
+        window: Window {
+            start: 0,
+            end: size,
+        },
+    }
+}
+
+// The object in slot o takes the blocks that its size needs, all zero.
+fn hold(bytes: &mut [u8], links: &mut [u16], o: usize, size: u32)
+    requires { ⌜ HoldAsks (now bytes) (now links) o size ⌝ }
+    ensures { λ _. ⌜ Holds (now (bytes .entry)) (now (links .entry)) o size (now (bytes .exit)) (now (links .exit)) ⌝ }
+{
+    let n = blocks_of(size) as usize;
+    let last = clear(bytes, links, n);
+    take(links, o, n, last);
+}
+
+// Its record.
+fn record(
+    bytes: &mut [u8],
+    links: &mut [u16],
+    words: &mut [u32],
+    o: usize,
+    name: Name,
+    size: u32,
+    flag: u32,
+)
+    requires { ⌜ RecordAsks (now bytes) (now links) (now words) o (nameOf name) size flag ⌝ }
+    ensures { λ _. ⌜ Records (now (bytes .entry)) (now (links .entry)) (now (words .entry)) o (nameOf name) size flag
+        (now (bytes .exit)) (now (links .exit)) (now (words .exit)) ⌝ }
+{
+    record_bytes(bytes, o, name.volume as u8, flag as u8);
+    record_links(links, o, name.serial as u16, size as u16);
+    record_words(words, o);
+}
+
+// All of the object in slot o, and its master.
+fn place(bytes: &mut [u8], links: &mut [u16], words: &mut [u32], o: usize, req: Request)
+    requires { ⌜ PlaceAsks (now bytes) (now links) (now words) o (nameOf (req .name)) (req .size) (req .flag)
+        (req .rights) ⌝ }
+    ensures { λ _. ⌜ Places (now (bytes .entry)) (now (links .entry)) (now (words .entry)) o (nameOf (req .name))
+        (req .size) (req .flag) (req .rights) (passwordOf (req .drawn))
+        (now (bytes .exit)) (now (links .exit)) (now (words .exit)) ⌝ }
+{
+    hold(bytes, links, o, req.size);
+    let name = req.name;
+    record(bytes, links, words, o, name, req.size, req.flag);
+    let drawn = req.drawn;
+    let master = master_of(o, req.size, req.rights, drawn);
+    new_cap(links, words, master, Moneyword(0));
+}
+
+// A new object with the name, the size and the flag of the request, and its master, which is handed back as drawn.
+pub fn make_obj(bytes: &mut [u8], links: &mut [u16], words: &mut [u32], req: Request) -> Reply
+    requires { ⌜ MakeAsks (now bytes) (now links) (now words) (nameOf (req .name)) (req .size) (req .flag)
+        (req .rights) ⌝ }
+    ensures { λ r. ⌜ Replies r (now (bytes .exit)) (now (links .exit)) (now (words .exit))
+        (makeRun (now (bytes .entry)) (now (links .entry)) (now (words .entry)) (nameOf (req .name)) (req .size)
+        (req .flag) (req .rights) (passwordOf (req .drawn))) ⌝ }
+{
+    let name = req.name;
+    if find_object(bytes, links, name) == 0 {
+        if no_space(links, blocks_of(req.size) as usize) {
+            return Reply::refused(13);
+        }
+        let o = slot(links[FREE_OBJECTS]);
+        place(bytes, links, words, o, req);
+        let drawn = req.drawn;
+        return Reply::hands_back(name, drawn);
+    }
+    Reply::refused(12)
+}

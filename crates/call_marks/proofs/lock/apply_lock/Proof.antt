@@ -1,0 +1,106 @@
+-- `apply_lock` stores the two XORed words of the target's lockword, or is stopped by 8.
+use native.Mathlib.Omega.{arith}
+use lib.ListN.{length-set}
+use Rattle.call_marks.proofs.Stops.{Found, lock-met, lock-done}
+use borrow.Author.Needs.{needs}
+use Rattle.call_marks.proofs.lock.apply_lock.Statement.{statement}
+use Rattle.call_marks.proofs.lock.apply_lock.Tie as tie
+
+abbrev entry : tie.After-is-process → tie.Start
+entry c = c .before .before .before .before .before
+
+found : (c : tie.After-is-process)
+    → Found (entry c .args .bytes .now) (entry c .args .links .now) (entry c .args .k)
+    (c .before .target .result) (c .is-process .result)
+found c = record { target = c .before .target .ensures; process = c .is-process .ensures }
+
+target-requires : tie.Need-target-requires
+target-requires c κs = search needs
+
+is-process-requires : tie.Need-is-process-requires
+is-process-requires c κs = search needs
+
+add-first : tie.Need-add-first
+add-first c = search needs
+
+mul-first : tie.Need-mul-first
+mul-first c = search needs
+
+slice-read-first : tie.Need-slice-read-first
+slice-read-first c = search needs
+
+add-second : tie.Need-add-second
+add-second c = search needs
+
+mul-second : tie.Need-mul-second
+mul-second c = search needs
+
+slice-read-second : tie.Need-slice-read-second
+slice-read-second c = search needs
+
+xor-words-requires : tie.Need-xor-words-requires
+xor-words-requires c κs = search needs
+
+array-read-words : tie.Need-array-read-words
+array-read-words c = search needs
+
+add-words : tie.Need-add-words
+add-words c = search needs
+
+mul-words : tie.Need-mul-words
+mul-words c = search needs
+
+slice-write-words : tie.Need-slice-write-words
+slice-write-words c = search needs
+
+array-read-words-2 : tie.Need-array-read-words-2
+array-read-words-2 c = search needs
+
+add-words-2 : tie.Need-add-words-2
+add-words-2 c = search needs
+
+mul-words-2 : tie.Need-mul-words-2
+mul-words-2 c = search needs
+
+slice-write-words-2 : tie.Need-slice-write-words-2
+slice-write-words-2 c = simp length-set (omega arith)
+
+same-length : tie.Need-same-length
+same-length c = search needs
+
+returns : tie.Need-returns
+returns c =
+    let p = c .before .before .before .before in
+    let s = entry p in
+    lock-done (found p) (s .args .words .now) (s .args .lock) (c .before .before .before .if1 .taken) (s .pre .target)
+    (c .xor-words .result) (c .xor-words .ensures)
+
+returns-2 : tie.Need-returns-2
+returns-2 c =
+    let s = entry (c .before) in
+    lock-met (found (c .before)) (s .args .words .now) (s .args .lock) (c .if1 .left)
+
+pub apply-lock-spec : {M : Type 1} → statement M
+apply-lock-spec =
+    tie.close
+    (tie.spec
+    target-requires
+    is-process-requires
+    add-first
+    mul-first
+    slice-read-first
+    add-second
+    mul-second
+    slice-read-second
+    xor-words-requires
+    array-read-words
+    add-words
+    mul-words
+    slice-write-words
+    array-read-words-2
+    add-words-2
+    mul-words-2
+    slice-write-words-2
+    same-length
+    returns
+    returns-2)

@@ -1,0 +1,50 @@
+-- `set_suspended` stores the target's mark, or is stopped by 8.
+use borrow.Author.Needs.{needs}
+use Rattle.call_marks.proofs.Stops.{Found, suspended-met, suspended-done}
+use Rattle.call_marks.proofs.mark.set_suspended.Statement.{statement}
+use Rattle.call_marks.proofs.mark.set_suspended.Tie as tie
+
+abbrev entry : tie.After-is-process → tie.Start
+entry c = c .before .before .before .before .before
+
+found : (c : tie.After-is-process)
+    → Found (entry c .args .bytes .now) (entry c .args .links .now) (entry c .args .k)
+    (c .before .before .target .result) (c .is-process .result)
+found c = record { target = c .before .before .target .ensures; process = c .is-process .ensures }
+
+target-requires : tie.Need-target-requires
+target-requires c κs = search needs
+
+is-process-requires : tie.Need-is-process-requires
+is-process-requires c κs = search needs
+
+add-bytes : tie.Need-add-bytes
+add-bytes c = search needs
+
+slice-write-bytes : tie.Need-slice-write-bytes
+slice-write-bytes c = search needs
+
+same-length : tie.Need-same-length
+same-length c = search needs
+
+returns : tie.Need-returns
+returns c w = suspended-done (found (c .before)) (c .if1 .taken) w (entry (c .before) .args .mark)
+
+same-length-2 : tie.Need-same-length-2
+same-length-2 c = search needs
+
+returns-2 : tie.Need-returns-2
+returns-2 c w = suspended-met (found (c .before)) (c .if1 .left) w (entry (c .before) .args .mark)
+
+pub set-suspended-spec : {M : Type 1} → statement M
+set-suspended-spec =
+    tie.close
+    (tie.spec
+    target-requires
+    is-process-requires
+    add-bytes
+    slice-write-bytes
+    same-length
+    returns
+    same-length-2
+    returns-2)

@@ -1,0 +1,51 @@
+// "suspend, resume: 8 not a process. Sets or clears the mark." "wait: no more. Sets waiting."
+ghost use Prim.Native.Nat.{ℕ, _≤_};
+ghost use mathlib.Core.Path.{_≡_};
+ghost use mathlib.Core.List.{List};
+ghost use lib.ListN.{length};
+ghost use Rattle.layout.specs.Layout as Layout;
+ghost use Rattle.call_steps.specs.Run.{over};
+ghost use Rattle.call_marks.specs.Runs.{MarkAsks, suspendedRun, waitRun};
+use crate::process::is_process;
+use call_steps::target::target;
+use layout::SUSPENDED;
+use layout::WAITING;
+
+// The suspended mark of the object that capability k is for, 1 set or 0 clear.
+fn set_suspended(bytes: &mut [u8], links: &[u16], k: usize, mark: u8) -> u32
+    requires { ⌜ MarkAsks (now bytes) (now links) k ⌝ }
+    ensures { λ r. ⌜ ((w : List ℕ) → over r (now (bytes .exit)) (now (links .entry)) w
+        ≡ suspendedRun (now (bytes .entry)) (now (links .entry)) w k mark) ⌝ }
+{
+    let o = target(links, k);
+    if is_process(bytes, o) {
+        bytes[SUSPENDED + o] = mark;
+        return 0;
+    }
+    8
+}
+
+pub fn suspend(bytes: &mut [u8], links: &[u16], k: usize) -> u32
+    requires { ⌜ MarkAsks (now bytes) (now links) k ⌝ }
+    ensures { λ r. ⌜ ((w : List ℕ) → over r (now (bytes .exit)) (now (links .entry)) w
+        ≡ suspendedRun (now (bytes .entry)) (now (links .entry)) w k 1) ⌝ }
+{
+    set_suspended(bytes, links, k, 1)
+}
+
+pub fn resume(bytes: &mut [u8], links: &[u16], k: usize) -> u32
+    requires { ⌜ MarkAsks (now bytes) (now links) k ⌝ }
+    ensures { λ r. ⌜ ((w : List ℕ) → over r (now (bytes .exit)) (now (links .entry)) w
+        ≡ suspendedRun (now (bytes .entry)) (now (links .entry)) w k 0) ⌝ }
+{
+    set_suspended(bytes, links, k, 0)
+}
+
+// The waiting mark of the caller, in slot me.
+pub fn wait(bytes: &mut [u8], me: usize) -> u32
+    requires { ⌜ length (now bytes) ≡ Layout.BYTES ⌝ ∗ ⌜ me ≤ 64 ⌝ }
+    ensures { λ r. ⌜ ((l w : List ℕ) → over r (now (bytes .exit)) l w ≡ waitRun (now (bytes .entry)) l w me) ⌝ }
+{
+    bytes[WAITING + me] = 1;
+    0
+}

@@ -1,0 +1,55 @@
+// "revive: 8; 16 not terminated, or sum 0; 9 the caller's cash is below the sum. The terminated mark clears and the sum
+// moves from the caller's cash to the target's."
+ghost use mathlib.Core.Path.{_≡_};
+ghost use lib.ListN.{length};
+ghost use Rattle.layout.specs.Layout as Layout;
+ghost use Rattle.call_steps.specs.Run.{over};
+ghost use Rattle.call_steps.specs.Tests.{ObjectSlot};
+ghost use Rattle.call_marks.specs.Runs.{Room, ReviveAsks, movedWords, reviveRun};
+use crate::process::is_process;
+use call_steps::target::target;
+use layout::CASH;
+use layout::TERMINATED;
+use values::cash::Cash;
+
+// The sum moves from the cash at slot me to that at slot o: first taken, then added to what that left.
+fn move_cash(words: &mut [u32], me: usize, o: usize, sum: u32)
+    requires { ⌜ length (now words) ≡ Layout.WORDS ⌝ ∗ ⌜ ObjectSlot me ⌝ ∗ ⌜ ObjectSlot o ⌝ ∗ ⌜ Room (now words) me o sum ⌝ }
+    ensures { λ _. ⌜ now (words .exit) ≡ movedWords (now (words .entry)) me o sum ⌝ }
+{
+    let left = Cash(words[CASH + me]).less(sum);
+    words[CASH + me] = left.0;
+    let held = Cash(words[CASH + o]);
+    words[CASH + o] = held.0 + sum;
+}
+
+// The caller, in slot me, pays the object that capability k is for.
+pub fn revive(
+    bytes: &mut [u8],
+    links: &[u16],
+    words: &mut [u32],
+    me: usize,
+    k: usize,
+    sum: u32,
+) -> u32
+    requires { ⌜ ReviveAsks (now bytes) (now links) (now words) me k sum ⌝ }
+    ensures { λ r. ⌜ over r (now (bytes .exit)) (now (links .entry)) (now (words .exit))
+        ≡ reviveRun (now (bytes .entry)) (now (links .entry)) (now (words .entry)) me k sum ⌝ }
+{
+    let o = target(links, k);
+    if is_process(bytes, o) {
+        if bytes[TERMINATED + o] == 0 {
+            return 16;
+        }
+        if sum == 0 {
+            return 16;
+        }
+        if Cash(words[CASH + me]).below(sum) {
+            return 9;
+        }
+        move_cash(words, me, o, sum);
+        bytes[TERMINATED + o] = 0;
+        return 0;
+    }
+    8
+}

@@ -1,0 +1,46 @@
+-- A request as the rules' call, and a reply as their answer.
+use Prim.Native.Nat.{ℕ}
+use mathlib.Core.List.{List}
+use Rattle.rules.specs.Store as Store
+use Rattle.rules.specs.Call as Call
+use Rattle.values.specs.Words.{passwordOf, lockwordOf, windowOf}
+use Rattle.call_steps.specs.declared.request.Name.{Name}
+use Rattle.call_steps.specs.declared.request.Capability.{Capability}
+use Rattle.call_steps.specs.declared.request.Request.{Request}
+use Rattle.call_steps.specs.declared.request.Reply.{Reply}
+
+abbrev pub nameOf : Name → Store.Name
+nameOf n = record { volume = n .volume; serial = n .serial }
+
+abbrev pub capabilityOf : Capability → Call.Capability
+capabilityOf x = record { name = nameOf (x .name); password = passwordOf (x .password) }
+
+-- with the bytes that come with it, and the lengths of the answer buffer and of the scratch
+unfoldable pub callOf : Request → List ℕ → ℕ → ℕ → Call.Call
+callOf r bytes buffer scratch = record {
+  number = r .number;
+  caller = nameOf (r .caller);
+  presented = capabilityOf (r .presented);
+  name = nameOf (r .name);
+  size = r .size;
+  flag = r .flag;
+  rights = r .rights;
+  drawn = passwordOf (r .drawn);
+  range = windowOf (r .range);
+  sum = r .sum;
+  lock = lockwordOf (r .lock);
+  bytes = bytes;
+  buffer = buffer;
+  scratch = scratch;
+}
+
+-- with the bytes at the buffer's front
+unfoldable pub answerOf : Reply → List ℕ → Call.Answer
+answerOf r bytes = record {
+  code = r .code;
+  capability = capabilityOf (r .capability);
+  length = r .length;
+  moneyword = r .moneyword;
+  sum = r .sum;
+  bytes = bytes;
+}

@@ -1,0 +1,82 @@
+// Refusals 5 and 6: the capability presented, and the right that the call asks of it.
+ghost use mathlib.Core.Path.{_≡_};
+ghost use mathlib.Core.List.{List};
+ghost use Prim.Native.Nat.{ℕ, _≤_};
+ghost use lib.ListN.{length};
+ghost use Rattle.rules.specs.Slots.{find};
+ghost use Rattle.rules.specs.Rights.{has, asked, op};
+ghost use Rattle.rules.specs.Password.{presented};
+ghost use Rattle.values.specs.Words.{passwordOf};
+ghost use Rattle.layout.specs.Layout;
+ghost use Rattle.layout.specs.View.{view};
+ghost use Rattle.layout.specs.WellFormed.{WellFormed};
+ghost use Rattle.call_steps.specs.Request.{capabilityOf};
+ghost use Rattle.call_steps.specs.Run.{Process, Held};
+ghost use Rattle.call_steps.specs.Tests.{CapSizes, CapSlot, held};
+use crate::groups::last_p1;
+use crate::objects::find_object;
+use crate::request::Capability;
+use crate::widen::slot;
+use layout::LOCK1;
+use layout::LOCK2;
+use layout::OWNER;
+use layout::P1;
+use layout::P2;
+use layout::RIGHTS;
+use values::password::unlock;
+use values::rights::Rights;
+
+// Slot i holds a capability of object o with this password.
+fn is_held(links: &[u16], words: &[u32], i: usize, o: usize, p: [u32; 2]) -> bool
+    requires { ⌜ CapSizes (now links) (now words) ⌝ ∗ ⌜ CapSlot i ⌝ ∗ ⌜ 1 ≤ o ⌝ }
+    ensures { λ r. ⌜ ((b : List ℕ) → r ≡ held (view b (now (links .entry)) (now (words .entry))) o (passwordOf p) i) ⌝ }
+{
+    if slot(links[OWNER + i]) == o {
+        if words[P1 + i] == p[0] {
+            return words[P2 + i] == p[1];
+        }
+        return false;
+    }
+    false
+}
+
+// The slot of the capability of object o with this password, 0 if there is none.
+fn find_held(links: &[u16], words: &[u32], o: usize, p: [u32; 2]) -> usize
+    requires { ⌜ CapSizes (now links) (now words) ⌝ ∗ ⌜ 1 ≤ o ⌝ }
+    ensures { λ r. ⌜ ((b : List ℕ)
+        → r ≡ find 512 (held (view b (now (links .entry)) (now (words .entry))) o (passwordOf p))) ⌝ }
+{
+    let p1 = p[0];
+    let mut i = last_p1(words, 512, p1);
+    while 0 < i {
+        if is_held(links, words, i, o, p) {
+            return i;
+        }
+        i = last_p1(words, i - 1, p1);
+    }
+    0
+}
+
+// The slot of the capability that the process in slot me presents, 0 if there is none.
+pub fn present(bytes: &[u8], links: &[u16], words: &[u32], me: usize, x: Capability) -> usize
+    requires { ⌜ WellFormed (now bytes) (now links) (now words) ⌝ ∗ ⌜ Process (now bytes) (now links) me ⌝ }
+    ensures { λ r. ⌜ r
+        ≡ presented (view (now (bytes .entry)) (now (links .entry)) (now (words .entry))) me (capabilityOf x) ⌝ }
+{
+    let o = find_object(bytes, links, x.name);
+    if o == 0 {
+        return 0;
+    }
+    let lock = [words[LOCK1 + me], words[LOCK2 + me]];
+    let given = x.password;
+    find_held(links, words, o, unlock(given, lock))
+}
+
+// The capability in slot k holds the right that the call with this number asks.
+pub fn right_held(links: &[u16], k: usize, number: u32) -> bool
+    requires { ⌜ length (now links) ≡ Layout.LINKS ⌝ ∗ ⌜ Held (now links) k ⌝ }
+    ensures { λ r. ⌜ ((b w : List ℕ) → r ≡ has (view b (now (links .entry)) w .cap k .rights) (asked (op number))) ⌝ }
+{
+    let rights = Rights(links[RIGHTS + k]);
+    rights.has(Rights::asked(number))
+}

@@ -1,0 +1,148 @@
+// Refusal 2: an unknown call, or an argument out of range. Each function is the rules' definition of its name.
+ghost use mathlib.Core.Path.{_≡_};
+ghost use mathlib.Core.Bool.{not, _&&_, _||_};
+ghost use mathlib.Core.List.{List};
+ghost use Prim.Native.Nat.{ℕ, _-_};
+ghost use lib.Dec.{leb, eqb};
+ghost use lib.ListN.{length};
+ghost use Rattle.rules.specs.Rights.{op, presents};
+ghost use Rattle.rules.specs.Refusals.{nameFits, ordered, transferFits, argumentsFit, inRange};
+ghost use Rattle.values.specs.Words.{windowOf};
+ghost use Rattle.call_steps.specs.Request.{nameOf, callOf};
+use crate::request::Name;
+use crate::request::Request;
+use values::rights::Rights;
+use values::window::Window;
+
+// Volumes are 0 to 3, serials 0 to 65,535.
+pub fn name_fits(name: Name) -> bool
+    ensures { λ r. ⌜ r ≡ nameFits (nameOf name) ⌝ }
+{
+    if name.volume <= 3 {
+        name.serial <= 65535
+    } else {
+        false
+    }
+}
+
+// A read or write of at most 256 bytes.
+fn transfer_fits(range: Window) -> bool
+    ensures { λ r. ⌜ r ≡ transferFits (windowOf range) ⌝ }
+{
+    if range.start <= range.end {
+        range.end - range.start <= 256
+    } else {
+        false
+    }
+}
+
+// make_obj's arguments.
+fn make_fits(name: Name, size: u32, flag: u32, rights: u32) -> bool
+    ensures { λ r. ⌜ r ≡ (nameFits (nameOf name) && leb size 8192 && leb flag 1 && leb rights 8191) ⌝ }
+{
+    if size > 8192 {
+        return false;
+    }
+    if flag > 1 {
+        return false;
+    }
+    if rights > 8191 {
+        return false;
+    }
+    name_fits(name)
+}
+
+// read's.
+fn read_fits(range: Window, buffer: usize) -> bool
+    ensures { λ r. ⌜ r ≡ (transferFits (windowOf range) && leb 256 buffer) ⌝ }
+{
+    if transfer_fits(range) {
+        buffer >= 256
+    } else {
+        false
+    }
+}
+
+// write's: as many bytes come as the range holds.
+fn write_fits(range: Window, text: usize) -> bool
+    ensures { λ r. ⌜ r ≡ (transferFits (windowOf range) && eqb text (range .end - range .start)) ⌝ }
+{
+    if transfer_fits(range) {
+        let size = range.end - range.start;
+        text == size as usize
+    } else {
+        false
+    }
+}
+
+// derive_cap's.
+fn derive_fits(rights: u32, range: Window) -> bool
+    ensures { λ r. ⌜ r ≡ (leb rights 8191 && ordered (windowOf range)) ⌝ }
+{
+    if rights <= 8191 {
+        range.start <= range.end
+    } else {
+        false
+    }
+}
+
+// The ranges of a call's own arguments, in call order.
+fn arguments_fit(req: Request, text: usize, buffer: usize, scratch: usize) -> bool
+    ensures { λ r. ⌜ ((d : List ℕ) → length d ≡ text
+        → r ≡ argumentsFit (op (req .number)) (callOf req d buffer scratch)) ⌝ }
+{
+    let n = req.number;
+    match n {
+        1 => make_fits(req.name, req.size, req.flag, req.rights),
+        2 => read_fits(req.range, buffer),
+        3 => write_fits(req.range, text),
+        4 => true,
+        5 => derive_fits(req.rights, req.range),
+        6 => scratch >= 512,
+        7 => scratch >= 512,
+        8 => true,
+        9 => true,
+        10 => true,
+        11 => true,
+        12 => req.lock[0] < 2147483648,
+        13 => text <= 16,
+        14 => buffer >= 256,
+        15 => true,
+        16 => true,
+        _ => false,
+    }
+}
+
+// A call presents a capability where it asks a right of one.
+pub fn presents(number: u32) -> bool
+    ensures { λ r. ⌜ r ≡ presents (op number) ⌝ }
+{
+    Rights::asked(number).0 != 0
+}
+
+// The name presented fits, where one is presented.
+fn presented_fits(number: u32, name: Name) -> bool
+    ensures { λ r. ⌜ r ≡ (not (presents (op number)) || nameFits (nameOf name)) ⌝ }
+{
+    if presents(number) {
+        name_fits(name)
+    } else {
+        true
+    }
+}
+
+// The caller's name, the name presented where one is, and the call's own arguments; `text`, `buffer` and `scratch` are
+// the lengths of the lent slices.
+pub fn in_range(req: Request, text: usize, buffer: usize, scratch: usize) -> bool
+    ensures { λ r. ⌜ ((d : List ℕ) → length d ≡ text → r ≡ inRange (callOf req d buffer scratch)) ⌝ }
+{
+    if name_fits(req.caller) {
+        if presented_fits(req.number, req.presented.name) {
+            arguments_fit(req, text, buffer, scratch)
+        } else {
+            false
+        }
+    } else {
+        false
+    }
+}

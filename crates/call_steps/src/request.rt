@@ -1,0 +1,81 @@
+// A request as it comes by value, and the reply to it: the rules' call and answer, without the lent slices.
+ghost use Rattle.values.specs.Words.{passwordOf};
+ghost use Rattle.call_steps.specs.Request.{nameOf};
+ghost use Rattle.call_steps.specs.Refuses.{Refuses};
+ghost use Rattle.call_steps.specs.Replies.{HandsBack};
+use values::window::Window;
+
+// An object's name: its volume and a serial.
+pub struct Name {
+    pub volume: u32,
+    pub serial: u32,
+}
+
+// A capability as it is presented and handed back.
+pub struct Capability {
+    pub name: Name,
+    pub password: [u32; 2],
+}
+
+// Every call's arguments by their names; a call looks at its own alone.
+pub struct Request {
+    pub number: u32,
+    pub caller: Name,
+    pub presented: Capability,
+    pub name: Name,
+    pub size: u32,
+    pub flag: u32,
+    pub rights: u32,
+    pub drawn: [u32; 2],
+    pub range: Window,
+    pub sum: u32,
+    pub lock: [u32; 2],
+}
+
+// 0 or the refusal, and the results; `count` bytes stand at the buffer's front.
+pub struct Reply {
+    pub code: u32,
+    pub capability: Capability,
+    pub length: u32,
+    pub moneyword: u32,
+    pub sum: u32,
+    pub count: u32,
+}
+
+impl Reply {
+    // A refusal: its other result fields are 0.
+    pub fn refused(code: u32) -> Reply
+        ensures { λ r. ⌜ Refuses code r ⌝ }
+    {
+        Reply {
+            code,
+            capability: Capability {
+                name: Name {
+                    volume: 0,
+                    serial: 0,
+                },
+                password: [0, 0],
+            },
+            length: 0,
+            moneyword: 0,
+            sum: 0,
+            count: 0,
+        }
+    }
+    // A new capability, as drawn.
+    pub fn hands_back(name: Name, password: [u32; 2]) -> Reply
+        ensures { λ r. ⌜ HandsBack (nameOf name) (passwordOf password) r ⌝ }
+    {
+        Reply {
+            code: 0,
+            capability: Capability {
+                name: name,
+                password: password,
+            },
+            length: 0,
+            moneyword: 0,
+            sum: 0,
+            count: 0,
+        }
+    }
+}

@@ -1,0 +1,38 @@
+// Refusal 12 of derive_cap and rename_obj: "p1 is taken in the object".
+ghost use mathlib.Core.Path.{_≡_};
+ghost use mathlib.Core.List.{List};
+ghost use Prim.Native.Nat.{ℕ, _≤_};
+ghost use Rattle.rules.specs.Slots.{some};
+ghost use Rattle.layout.specs.View.{view};
+ghost use Rattle.call_steps.specs.Tests.{CapSizes, CapSlot, taken};
+use crate::groups::last_p1;
+use crate::widen::slot;
+use layout::OWNER;
+use layout::P1;
+
+// Slot i holds a capability of object o with this p1.
+fn has_p1(links: &[u16], words: &[u32], i: usize, o: usize, p1: u32) -> bool
+    requires { ⌜ CapSizes (now links) (now words) ⌝ ∗ ⌜ CapSlot i ⌝ ∗ ⌜ 1 ≤ o ⌝ }
+    ensures { λ r. ⌜ ((b : List ℕ) → r ≡ taken (view b (now (links .entry)) (now (words .entry))) o p1 i) ⌝ }
+{
+    if slot(links[OWNER + i]) == o {
+        return words[P1 + i] == p1;
+    }
+    false
+}
+
+// Some capability of object o has this p1.
+pub fn p1_taken(links: &[u16], words: &[u32], o: usize, p1: u32) -> bool
+    requires { ⌜ CapSizes (now links) (now words) ⌝ ∗ ⌜ 1 ≤ o ⌝ }
+    ensures { λ r. ⌜ ((b : List ℕ)
+        → r ≡ some 512 (taken (view b (now (links .entry)) (now (words .entry))) o p1)) ⌝ }
+{
+    let mut i = last_p1(words, 512, p1);
+    while 0 < i {
+        if has_p1(links, words, i, o, p1) {
+            return true;
+        }
+        i = last_p1(words, i - 1, p1);
+    }
+    false
+}

@@ -1,0 +1,87 @@
+-- Each call's run is what the rules give of its own part: 01, "read, write" of "What each call refuses, in order".
+use Prim.Native.Nat.{ℕ, _+_, _-_, _≤_}
+use mathlib.Core.Path.{_≡_, refl, sym, ap}
+use mathlib.Core.Logic.{_≢_}
+use mathlib.Core.List.{List, append-assoc}
+use native.Mathlib.Omega.{arith}
+use lib.ListN.{length, take, drop}
+use Rattle.rules.specs.Store.{State}
+use Rattle.rules.specs.Rights.{read, write, op}
+use Rattle.rules.specs.Call.{Call, done, handsOver}
+use Rattle.rules.specs.Refusals.{first}
+use Rattle.rules.specs.Calls.{liesIn, transferRefuses, refuses, does, readDoes, written, writeDoes}
+use Rattle.rules.proofs.Tests.{by-bool}
+use Rattle.layout.specs.Rows.{masterOf, sizeOf, firstBlockOf, ownerOf}
+use Rattle.layout.specs.View.{view}
+use Rattle.layout.specs.WellFormed.{WellFormed}
+use Rattle.layout.proofs.Shown.{cap-object, cap-here, bytes-here}
+use Rattle.layout.proofs.Shaped.{shaped}
+use Rattle.call_steps.specs.Run.{Held, Meets, over}
+use Rattle.call_steps.proofs.Meeting.{takes, Does, meets-settled}
+use Rattle.call_transfer.specs.Runs.{range, window, inside, bytesIn, handed, copiedIn, readRun, writeRun}
+use Rattle.call_transfer.proofs.Stops.{inside-no, ends-in}
+use Rattle.call_transfer.proofs.Requires.{target-of}
+use Rattle.call_transfer.proofs.Stored.{replaced, after-length, write-stored, write-cells}
+
+module _ {b l w : List ℕ} (f : WellFormed b l w) (c : Call) (me k : ℕ) (h : Held l k) where
+  abbrev s : State
+  s = view b l w
+
+  alive : masterOf l (ownerOf l k) ≢ 0
+  alive = shaped l (f .shape) .cap k (h .live) .owner-lives
+
+  -- refusal 7 is met in the cells where it is met in the view
+  stop-is : inside w k (c .range .start) (c .range .end) ≡ first (transferRefuses s c me k)
+  unfolding inside transferRefuses
+  stop-is = rw (cap-here b l w k (h .live))
+
+  pub read-meets : op (c .number) ≡ read → Meets s c me k read (readRun b l w k (c .range .start) (c .range .end))
+  unfolding takes refuses does readDoes readRun handed handsOver bytesIn
+  read-meets e = meets-settled b l w c me k read (rw e refl) f (inside w k (c .range .start) (c .range .end)) _ stop-is
+      (λ z. record {
+        rules = rw (cap-object b l w k, bytes-here b l w _ alive);
+        sized = f .sized;
+        cells = f .cells;
+        shape = f .shape;
+      })
+
+  -- where it is not, the range ends within the object
+  ends-within : inside w k (c .range .start) (c .range .end) ≡ 0 → c .range .end ≤ sizeOf l (ownerOf l k)
+  ends-within z = by-bool (liesIn (range (c .range .start) (c .range .end)) (window w k))
+      (λ e. omega (arith, ends-in w k (c .range .start) (c .range .end) e, target-of f h .fits))
+      (λ e. absurd (omega (arith, inside-no w k (c .range .start) (c .range .end) e)))
+
+  module _ (ordered : c .range .start ≤ c .range .end)
+      (long : length (c .bytes) ≡ c .range .end - c .range .start) where
+    written-is : (xs : List ℕ) → replaced (c .range .start) (c .bytes) xs ≡ written s c me k xs
+    unfolding written
+    written-is xs =
+        let e : c .range .start + length (c .bytes) ≡ c .range .end = omega arith in
+        rw e (sym (append-assoc (take (c .range .start) xs) (c .bytes) (drop (c .range .end) xs)))
+
+    abbrev after : List ℕ
+    after = copiedIn l (firstBlockOf l (ownerOf l k)) (c .range .start) (c .bytes) (length (c .bytes)) b
+
+    write-does : c .range .end ≤ sizeOf l (ownerOf l k) → Does s c me k write (over 0 after l w)
+    unfolding does writeDoes over done
+    write-does fits =
+        let o : ℕ = ownerOf l k in
+        let room : c .range .start + length (c .bytes) ≤ sizeOf l o = omega arith in
+        let B = f .shape .blocks in
+        record {
+          rules = rw (cap-object b l w k, ← written-is (s .bytes o))
+              (ap done (sym (write-stored b l (f .sized .bytes) B o alive (c .range .start) (c .bytes) room w)));
+          sized = record {
+            bytes = after-length b l (f .sized .bytes) B o alive (c .range .start) (c .bytes) room;
+            links = f .sized .links;
+            words = f .sized .words;
+          };
+          cells = write-cells b l (f .sized .bytes) B o alive (c .range .start) (c .bytes) room (f .cells);
+          shape = f .shape;
+        }
+
+    pub write-meets : op (c .number) ≡ write
+        → Meets s c me k write (writeRun b l w k (c .range .start) (c .range .end) (c .bytes))
+    unfolding takes refuses writeRun
+    write-meets e = meets-settled b l w c me k write (rw e refl) f (inside w k (c .range .start) (c .range .end)) _
+        stop-is (λ z. write-does (ends-within z))

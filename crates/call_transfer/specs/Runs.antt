@@ -1,0 +1,121 @@
+-- Where an object's bytes stand in the cells, and the own parts of read and write, exactly. The slices are those that
+-- the fee left; `k` is the slot of the capability presented.
+use Prim.Native.Nat.{ℕ, zero, suc, _+_, _*_, _-_, _/_, _%_, _≤_, _<_}
+use mathlib.Core.Path.{_≡_}
+use mathlib.Core.Bool.{not}
+use mathlib.Core.List.{List, [], _∷_}
+use lib.ListN.{length, getD, set, take, drop}
+use Rattle.rules.specs.Store.{Window, blocks}
+use Rattle.rules.specs.Call.{handsOver}
+use Rattle.rules.specs.Refusals.{_when_, first}
+use Rattle.rules.specs.Calls.{liesIn}
+use Rattle.layout.specs.Layout as Layout
+use Rattle.layout.specs.Rows.{sizeOf, firstBlockOf, ownerOf, nextBlockOf, startOf, endOf, dataIn}
+use Rattle.layout.specs.View.{gather, view}
+use Rattle.layout.specs.Shape.{Chain}
+use Rattle.layout.specs.WellFormed.{Sized}
+use Rattle.call_steps.specs.Run as Run
+use Rattle.call_steps.specs.Run.{Ran, over, settled, overlay}
+
+-- ---- places
+
+-- the block n steps after block k
+unfoldable pub hop : (ℕ → ℕ) → ℕ → ℕ → ℕ
+hop next zero k = k
+hop next (suc n) k = next (hop next n k)
+
+-- the cell of byte p of the object whose first block is head
+unfoldable pub cellOf : List ℕ → ℕ → ℕ → ℕ
+cellOf l head p = Layout.DATA + hop (nextBlockOf l) (p / 64) head * 64 + p % 64
+
+-- the first n blocks from head on are there
+abbrev pub Blocked : List ℕ → ℕ → ℕ → Type 0
+Blocked l head n = (i : ℕ) → i < n → (1 ≤ hop (nextBlockOf l) i head) × (hop (nextBlockOf l) i head ≤ 512)
+
+-- n stores to a list: of value i to place i, for each i below n, in order
+unfoldable pub laid : (place value : ℕ → ℕ) → ℕ → List ℕ → List ℕ
+laid place value zero xs = xs
+laid place value (suc n) xs = set (laid place value n xs) (place n) (value n)
+
+-- a buffer that n bytes of the object, from start on, are copied to
+abbrev pub copiedOut : List ℕ → List ℕ → ℕ → ℕ → ℕ → List ℕ → List ℕ
+copiedOut b l head start n buffer = laid (λ i. i) (λ i. getD b (cellOf l head (start + i)) 0) n buffer
+
+-- the store's bytes, where the data are copied to the object, from start on
+abbrev pub copiedIn : List ℕ → ℕ → ℕ → List ℕ → ℕ → List ℕ → List ℕ
+copiedIn l head start source n b = laid (λ i. cellOf l head (start + i)) (λ i. getD source i 0) n b
+
+-- ---- read, write: 7 the range is not inside the window
+
+abbrev pub range : ℕ → ℕ → Window
+range start end = record { start = start; end = end }
+
+-- of capability k
+abbrev pub window : List ℕ → ℕ → Window
+window w k = range (startOf w k) (endOf w k)
+
+unfoldable pub inside : List ℕ → ℕ → ℕ → ℕ → ℕ
+inside w k start end = first (7 when not (liesIn (range start end) (window w k)) ∷ [])
+
+-- the bytes of the object in slot o
+unfoldable pub bytesIn : List ℕ → List ℕ → ℕ → List ℕ
+bytesIn b l o = take (sizeOf l o) (gather (blocks (sizeOf l o)) (nextBlockOf l) (dataIn b) (firstBlockOf l o))
+
+-- ---- read
+
+-- its bytes start to end
+abbrev pub part : List ℕ → List ℕ → ℕ → ℕ → ℕ → List ℕ
+part b l o start end = take (end - start) (drop start (bytesIn b l o))
+
+-- bytes are handed over, and nothing changed
+unfoldable pub handed : List ℕ → List ℕ → List ℕ → List ℕ → Ran
+handed xs b l w = record {
+  answer = handsOver 0 xs (view b l w) .answer;
+  bytes = b;
+  links = l;
+  words = w;
+}
+
+unfoldable pub readRun : List ℕ → List ℕ → List ℕ → ℕ → ℕ → ℕ → Ran
+readRun b l w k start end = settled (inside w k start end) b l w (handed (part b l (ownerOf l k) start end) b l w)
+
+-- the code and the buffer are those of the run
+pub record Reads (b l w buffer : List ℕ) (k start end r : ℕ) (after : List ℕ) : Type 0 where
+  pub code : r ≡ readRun b l w k start end .answer .code
+  pub buffer-is : after ≡ overlay (readRun b l w k start end .answer .bytes) buffer
+
+-- ---- write
+
+unfoldable pub writeRun : List ℕ → List ℕ → List ℕ → ℕ → ℕ → ℕ → List ℕ → Ran
+writeRun b l w k start end source = settled (inside w k start end) b l w
+    (over 0 (copiedIn l (firstBlockOf l (ownerOf l k)) start source (length source) b) l w)
+
+-- ---- what the code asks
+
+-- capability k lives and names a living object, whose blocks are there and hold the window
+pub record Target (l w : List ℕ) (k : ℕ) : Type 0 where
+  pub owned : Run.Target l k
+  pub chain : (xs : List ℕ) × Chain 512 (nextBlockOf l) (firstBlockOf l (ownerOf l k)) xs
+      × (length xs ≡ blocks (sizeOf l (ownerOf l k)))
+  pub fits : endOf w k ≤ sizeOf l (ownerOf l k)
+  pub size : sizeOf l (ownerOf l k) ≤ 8192
+
+pub record ReadAsks (b l w buffer : List ℕ) (k start end : ℕ) : Type 0 where
+  pub sized : Sized b l w
+  pub target : Target l w k
+  pub ordered : start ≤ end
+  pub short : end ≤ start + 256
+  pub room : 256 ≤ length buffer
+
+-- n bytes from start on of the object whose first block is head
+pub record CopyAsks (b l : List ℕ) (head start n : ℕ) : Type 0 where
+  pub bytes : length b ≡ Layout.BYTES
+  pub links : length l ≡ Layout.LINKS
+  pub small : start + n ≤ 8192
+  pub blocked : Blocked l head (blocks (start + n))
+
+pub record WriteAsks (b l w source : List ℕ) (k start end : ℕ) : Type 0 where
+  pub sized : Sized b l w
+  pub target : Target l w k
+  pub ordered : start ≤ end
+  pub long : length source ≡ end - start

@@ -1,0 +1,55 @@
+// "read: 7 the range is not inside the window. At most 256 bytes go to the buffer's front."
+ghost use Prim.Native.Nat.{_≤_};
+ghost use mathlib.Core.Path.{_≡_};
+ghost use lib.ListN.{length};
+ghost use Rattle.call_transfer.specs.Runs.{CopyAsks, copiedOut, ReadAsks, Reads};
+use crate::chain::block_after;
+use crate::chain::block_at;
+use crate::window::first_block;
+use crate::window::in_window;
+use layout::DATA;
+
+// n bytes from start on, of the object whose first block is head, to the buffer's front.
+fn copy_out(bytes: &[u8], links: &[u16], buffer: &mut [u8], head: usize, start: usize, n: usize)
+    requires { ⌜ CopyAsks (now bytes) (now links) head start n ⌝ ∗ ⌜ n ≤ length (now buffer) ⌝ }
+    ensures { λ _. ⌜ now (buffer .exit)
+        ≡ copiedOut (now (bytes .entry)) (now (links .entry)) head start n (now (buffer .entry)) ⌝ }
+{
+    let mut block = block_at(links, head, start / 64);
+    let mut i: usize = 0;
+    while i < n {
+        let p = start + i;
+        buffer[i] = bytes[DATA + block * 64 + p % 64];
+        block = block_after(links, block, p);
+        i += 1;
+    }
+}
+
+// The bytes start to end of the object that capability k is for.
+pub fn read(
+    bytes: &[u8],
+    links: &[u16],
+    words: &[u32],
+    buffer: &mut [u8],
+    k: usize,
+    start: u32,
+    end: u32,
+) -> u32
+    requires { ⌜ ReadAsks (now bytes) (now links) (now words) (now buffer) k start end ⌝ }
+    ensures { λ r. ⌜ Reads (now (bytes .entry)) (now (links .entry)) (now (words .entry)) (now (buffer .entry))
+        k start end r (now (buffer .exit)) ⌝ }
+{
+    if in_window(words, k, start, end) {
+        let head = first_block(links, k);
+        copy_out(
+            bytes,
+            links,
+            buffer,
+            head,
+            start as usize,
+            (end - start) as usize,
+        );
+        return 0;
+    }
+    7
+}

@@ -1,0 +1,40 @@
+// Refusal 7, "the range is not inside the window", and where the object's blocks start.
+ghost use Prim.Native.Nat.{_≤_};
+ghost use mathlib.Core.Path.{_≡_};
+ghost use lib.ListN.{length};
+ghost use Rattle.rules.specs.Calls.{liesIn};
+ghost use Rattle.layout.specs.Layout as Layout;
+ghost use Rattle.layout.specs.Rows.{ownerOf, firstBlockOf};
+ghost use Rattle.call_steps.specs.Run.{Target};
+ghost use Rattle.call_transfer.specs.Runs.{range, window};
+use layout::END;
+use layout::FIRST_BLOCK;
+use layout::OWNER;
+use layout::START;
+use values::window::Window;
+
+// The range start to end lies in the window of the capability in slot k.
+pub fn in_window(words: &[u32], k: usize, start: u32, end: u32) -> bool
+    requires { ⌜ (length (now words) ≡ Layout.WORDS) × (1 ≤ k) × (k ≤ 512) ⌝ }
+    ensures { λ r. ⌜ r ≡ liesIn (range start end) (window (now (words .entry)) k) ⌝ }
+{
+    let from = words[START + k];
+    let to = words[END + k];
+    let window = Window {
+        start: from,
+        end: to,
+    };
+    window.holds(Window {
+        start: start,
+        end: end,
+    })
+}
+
+// The first block of the object that the capability in slot k is for.
+pub fn first_block(links: &[u16], k: usize) -> usize
+    requires { ⌜ (length (now links) ≡ Layout.LINKS) × Target (now links) k ⌝ }
+    ensures { λ r. ⌜ r ≡ firstBlockOf (now (links .entry)) (ownerOf (now (links .entry)) k) ⌝ }
+{
+    let o = links[OWNER + k] as usize;
+    links[FIRST_BLOCK + o] as usize
+}

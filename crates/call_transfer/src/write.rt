@@ -1,0 +1,48 @@
+// "write: 7 the range is not inside the window. At most 256 bytes of the object become the data."
+ghost use mathlib.Core.Path.{_≡_};
+ghost use lib.ListN.{length};
+ghost use Rattle.call_steps.specs.Run.{over};
+ghost use Rattle.call_transfer.specs.Runs.{CopyAsks, copiedIn, WriteAsks, writeRun};
+use crate::chain::block_after;
+use crate::chain::block_at;
+use crate::window::first_block;
+use crate::window::in_window;
+use layout::DATA;
+
+// The data to the bytes from start on of the object whose first block is head.
+fn copy_in(bytes: &mut [u8], links: &[u16], source: &[u8], head: usize, start: usize)
+    requires { ⌜ CopyAsks (now bytes) (now links) head start (length (now source)) ⌝ }
+    ensures { λ _. ⌜ now (bytes .exit) ≡ copiedIn (now (links .entry)) head start (now (source .entry))
+        (length (now (source .entry))) (now (bytes .entry)) ⌝ }
+{
+    let mut block = block_at(links, head, start / 64);
+    let mut i: usize = 0;
+    while i < source.len() {
+        let p = start + i;
+        bytes[DATA + block * 64 + p % 64] = source[i];
+        block = block_after(links, block, p);
+        i += 1;
+    }
+}
+
+// The bytes start to end of the object that capability k is for become the data.
+pub fn write(
+    bytes: &mut [u8],
+    links: &[u16],
+    words: &[u32],
+    source: &[u8],
+    k: usize,
+    start: u32,
+    end: u32,
+) -> u32
+    requires { ⌜ WriteAsks (now bytes) (now links) (now words) (now source) k start end ⌝ }
+    ensures { λ r. ⌜ over r (now (bytes .exit)) (now (links .entry)) (now (words .entry))
+        ≡ writeRun (now (bytes .entry)) (now (links .entry)) (now (words .entry)) k start end (now (source .entry)) ⌝ }
+{
+    if in_window(words, k, start, end) {
+        let head = first_block(links, k);
+        copy_in(bytes, links, source, head, start as usize);
+        return 0;
+    }
+    7
+}

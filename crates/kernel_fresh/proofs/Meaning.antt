@@ -1,0 +1,111 @@
+-- The fresh slices mean the rules' fresh store.
+use Prim.Native.Nat.{ℕ}
+use mathlib.Core.Path.{_≡_, refl, sym, _∙_}
+use mathlib.Core.Logic.{_≢_}
+use mathlib.Core.Bool.{Bool, true, false}
+use mathlib.Core.List.{[]}
+use Rattle.rules.specs.Slots.{at}
+use Rattle.rules.specs.Store.{Password, State, noObject, noLockword, noMarks, noCap, noWindow, fresh}
+use Rattle.layout.specs.View.{isSet, isProcess, onlyWhere, view}
+use Rattle.layout.specs.View as View
+use Rattle.kernel_fresh.specs.Slices.{freshBytes, freshLinks, freshWords}
+use Rattle.rules.proofs.Slots.{at-else}
+use Rattle.layout.proofs.Field.{at-is}
+use Rattle.kernel_fresh.proofs.Rows.{none, only}
+use Rattle.kernel_fresh.proofs.Rows.{flag-row, volume-row, suspended-row, waiting-row, terminated-row, count-row}
+use Rattle.kernel_fresh.proofs.Rows.{master-row, serial-row, size-row, owner-row, parent-row, rights-row}
+use Rattle.kernel_fresh.proofs.Rows.{house-cell, cash-row, lock1-row, lock2-row}
+use Rattle.kernel_fresh.proofs.Rows.{p1-row, p2-row, money-row, start-row, end-row}
+
+-- ---- one slot that passes a test
+
+only-at : {A : Type 0} (test : ℕ → Bool) (none : A) (f : ℕ → A) (i : ℕ)
+    → test i ≡ true → ((j : ℕ) → j ≢ i → test j ≡ false)
+    → onlyWhere test none f ≡ at (λ j. none) i (f i)
+unfolding onlyWhere
+only-at test none f i here else =
+    at-is (λ j. none) (onlyWhere test none f) i (f i) (rw (here, onlyWhere)) (λ j n. rw (else j n, onlyWhere))
+
+-- and what it has is what the others have
+only-same : {A : Type 0} (test : ℕ → Bool) (none : A) (f : ℕ → A) (i : ℕ)
+    → test i ≡ true → ((j : ℕ) → j ≢ i → test j ≡ false) → f i ≡ none
+    → onlyWhere test none f ≡ (λ j. none)
+only-same test none f i here else same =
+    only-at test none f i here else ∙ sym (at-is (λ j. none) (λ j. none) i (f i) (sym same) (λ j n. refl))
+
+-- only slot 1 is set, and only slot 1 is a process
+unset : (j : ℕ) → j ≢ 1 → isSet (only 1 j) ≡ false
+unfolding isSet
+unset j n = rw (at-else none 1 1 j n)
+
+idle : (j : ℕ) → j ≢ 1 → isProcess (only 1) (only 1) j ≡ false
+unfolding isProcess isSet
+idle j n = rw (at-else none 1 1 j n)
+
+-- ---- the parts
+
+module _ (supply : ℕ) (p : Password) where
+  abbrev S : State
+  S = view freshBytes freshLinks (freshWords supply p)
+
+  house : S .house ≡ 0
+  unfolding view
+  house = house-cell supply p
+
+  objects : S .object ≡ fresh supply p .object
+  unfolding view View.objects fresh isSet at
+  objects =
+      rw (master-row, volume-row, serial-row, size-row, flag-row)
+      (only-at (λ o. isSet (only 1 o)) noObject _ 1 refl unset)
+
+  bytes : S .bytes ≡ (λ o. [])
+  unfolding view View.bytes isSet at
+  bytes =
+      rw (master-row, size-row)
+      (only-same (λ o. isSet (only 1 o)) [] _ 1 refl unset refl)
+
+  lock : S .lock ≡ (λ o. noLockword)
+  unfolding view View.locks isProcess isSet at noLockword
+  lock =
+      rw (master-row, flag-row, lock1-row supply p, lock2-row supply p)
+      (only-same (isProcess (only 1) (only 1)) noLockword _ 1 refl idle refl)
+
+  cash : S .cash ≡ at (λ o. 0) 1 supply
+  unfolding view View.cash isProcess isSet at
+  cash = rw (master-row, flag-row, cash-row supply p) (only-at (isProcess (only 1) (only 1)) 0 _ 1 refl idle)
+
+  marks : S .marks ≡ (λ o. noMarks)
+  unfolding view View.marks isProcess isSet at noMarks
+  marks =
+      rw (master-row, flag-row, suspended-row, waiting-row, terminated-row)
+      (only-same (isProcess (only 1) (only 1)) noMarks _ 1 refl idle refl)
+
+  box : S .box ≡ (λ o. [])
+  unfolding view View.boxes View.messages isProcess isSet at
+  box = rw (master-row, flag-row, count-row) (only-same (isProcess (only 1) (only 1)) [] _ 1 refl idle refl)
+
+  cap : S .cap ≡ fresh supply p .cap
+  unfolding view View.caps fresh isSet at noWindow
+  cap =
+      rw (owner-row, parent-row, p1-row supply p, p2-row supply p, start-row supply p, end-row supply p, rights-row)
+      (only-at (λ i. isSet (only 1 i)) noCap _ 1 refl unset)
+
+  money : S .money ≡ (λ i. 0)
+  unfolding view View.moneywords isSet at
+  money = rw (owner-row, money-row supply p) (only-same (λ i. isSet (only 1 i)) 0 _ 1 refl unset refl)
+
+  -- ---- the store
+
+  pub fresh-means : S ≡ fresh supply p
+  unfolding fresh
+  fresh-means = λ i. record {
+    house = house i;
+    object = objects i;
+    bytes = bytes i;
+    lock = lock i;
+    cash = cash i;
+    marks = marks i;
+    box = box i;
+    cap = cap i;
+    money = money i;
+  }

@@ -1,0 +1,169 @@
+-- Each row of the fresh slices: zero, or zero but for slot 1, or a chain of free records.
+use Prim.Native.Nat.{ℕ}
+use mathlib.Core.Path.{_≡_}
+use lib.Dec.{lit<, lit≤}
+use lib.ListN.{getD, length-set}
+use Rattle.rules.specs.Store.{Password}
+use Rattle.rules.specs.Slots.{at}
+use Rattle.layout.specs.Layout as Layout
+use Rattle.layout.specs.Rows.{volumeOf, flagOf, suspendedOf, waitingOf, terminatedOf, countOf}
+use Rattle.layout.specs.Rows.{masterOf, serialOf, sizeOf, firstBlockOf}
+use Rattle.layout.specs.Rows.{ownerOf, parentOf, firstChildOf, prevCapOf, rightsOf}
+use Rattle.layout.specs.Rows.{nextObjectOf, nextCapOf, nextBlockOf}
+use Rattle.layout.specs.Rows.{cashOf, lock1Of, lock2Of, p1Of, p2Of, moneyOf, startOf, endOf}
+use Rattle.kernel_fresh.specs.Slices.{freshBytes, freshLinks, freeLinks, firstLinks, freshWords}
+use Rattle.kernel_fresh.proofs.Cells.{set-apart, set-slot, set-here, set-else, zero-row, zero-cell, length-zeros}
+use Rattle.kernel_fresh.proofs.Chains.{length-free, free-apart, free-else, free-head, FreeFrom, free-from}
+
+ruleset rows = (set-apart, set-slot, free-apart, zero-row, length-set, length-free, length-zeros)
+
+ruleset cells = (set-here, set-else, free-head, free-else, zero-cell, length-set, length-free, length-zeros)
+
+-- a row of zeros, and one of zeros but for slot 1
+abbrev pub none : ℕ → ℕ
+none = λ i. 0
+
+abbrev pub only : ℕ → ℕ → ℕ
+only v = at none 1 v
+
+-- ---- the bytes
+
+pub volume-row : volumeOf freshBytes ≡ none
+unfolding freshBytes
+volume-row = simp rows
+
+pub flag-row : flagOf freshBytes ≡ only 1
+unfolding freshBytes
+flag-row = simp rows
+
+pub suspended-row : suspendedOf freshBytes ≡ none
+unfolding freshBytes
+suspended-row = simp rows
+
+pub waiting-row : waitingOf freshBytes ≡ none
+unfolding freshBytes
+waiting-row = simp rows
+
+pub terminated-row : terminatedOf freshBytes ≡ none
+unfolding freshBytes
+terminated-row = simp rows
+
+pub count-row : countOf freshBytes ≡ none
+unfolding freshBytes
+count-row = simp rows
+
+-- ---- the links
+
+pub master-row : masterOf freshLinks ≡ only 1
+unfolding freshLinks freeLinks firstLinks
+master-row = simp rows
+
+pub serial-row : serialOf freshLinks ≡ only 1
+unfolding freshLinks freeLinks firstLinks
+serial-row = simp rows
+
+pub size-row : sizeOf freshLinks ≡ none
+unfolding freshLinks freeLinks firstLinks
+size-row = simp rows
+
+pub first-block-row : firstBlockOf freshLinks ≡ none
+unfolding freshLinks freeLinks firstLinks
+first-block-row = simp rows
+
+pub owner-row : ownerOf freshLinks ≡ only 1
+unfolding freshLinks freeLinks firstLinks
+owner-row = simp rows
+
+pub parent-row : parentOf freshLinks ≡ none
+unfolding freshLinks freeLinks firstLinks
+parent-row = simp rows
+
+pub first-child-row : firstChildOf freshLinks ≡ none
+unfolding freshLinks freeLinks firstLinks
+first-child-row = simp rows
+
+pub prev-cap-row : prevCapOf freshLinks ≡ none
+unfolding freshLinks freeLinks firstLinks
+prev-cap-row = simp rows
+
+pub rights-row : rightsOf freshLinks ≡ only 8191
+unfolding freshLinks freeLinks firstLinks
+rights-row = simp rows
+
+-- the chains of free records
+pub free-objects : FreeFrom 64 2 (nextObjectOf freshLinks)
+unfolding freshLinks freeLinks firstLinks
+free-objects =
+    simp rows
+    (free-from 64 Layout.«FREE_OBJECTS» Layout.«NEXT_OBJECT» 2 _
+    (lit≤ tt) (lit< tt) (lit≤ tt) (simp rows (lit< tt)) (simp rows))
+
+pub free-caps : FreeFrom 512 2 (nextCapOf freshLinks)
+unfolding freshLinks freeLinks firstLinks
+free-caps =
+    simp rows
+    (free-from 512 Layout.«FREE_CAPS» Layout.«NEXT_CAP» 2 _
+    (lit≤ tt) (lit< tt) (lit≤ tt) (simp rows (lit< tt)) (simp rows))
+
+pub free-blocks : FreeFrom 512 1 (nextBlockOf freshLinks)
+unfolding freshLinks freeLinks firstLinks
+free-blocks =
+    simp rows
+    (free-from 512 Layout.«FREE_BLOCKS» Layout.«NEXT_BLOCK» 1 _
+    (lit≤ tt) (lit< tt) (lit≤ tt) (simp rows (lit< tt)) (simp rows))
+
+-- the heads
+pub objects-head : getD freshLinks Layout.OBJECTS 0 ≡ 1
+unfolding freshLinks freeLinks firstLinks
+objects-head = simp cells
+
+pub free-objects-head : getD freshLinks Layout.«FREE_OBJECTS» 0 ≡ 2
+unfolding freshLinks freeLinks firstLinks
+free-objects-head = simp cells
+
+pub free-caps-head : getD freshLinks Layout.«FREE_CAPS» 0 ≡ 2
+unfolding freshLinks freeLinks firstLinks
+free-caps-head = simp cells
+
+pub free-blocks-head : getD freshLinks Layout.«FREE_BLOCKS» 0 ≡ 1
+unfolding freshLinks freeLinks firstLinks
+free-blocks-head = simp cells
+
+-- ---- the words
+
+module _ (supply : ℕ) (p : Password) where
+  pub house-cell : getD (freshWords supply p) Layout.HOUSE 0 ≡ 0
+  unfolding freshWords
+  house-cell = simp cells
+
+  pub cash-row : cashOf (freshWords supply p) ≡ only supply
+  unfolding freshWords
+  cash-row = simp rows
+
+  pub lock1-row : lock1Of (freshWords supply p) ≡ none
+  unfolding freshWords
+  lock1-row = simp rows
+
+  pub lock2-row : lock2Of (freshWords supply p) ≡ none
+  unfolding freshWords
+  lock2-row = simp rows
+
+  pub p1-row : p1Of (freshWords supply p) ≡ only (p .p1)
+  unfolding freshWords
+  p1-row = simp rows
+
+  pub p2-row : p2Of (freshWords supply p) ≡ only (p .p2)
+  unfolding freshWords
+  p2-row = simp rows
+
+  pub money-row : moneyOf (freshWords supply p) ≡ none
+  unfolding freshWords
+  money-row = simp rows
+
+  pub start-row : startOf (freshWords supply p) ≡ none
+  unfolding freshWords
+  start-row = simp rows
+
+  pub end-row : endOf (freshWords supply p) ≡ none
+  unfolding freshWords
+  end-row = simp rows

@@ -1,0 +1,105 @@
+// 01, "Fresh store": makes one in three lent slices, whatever they held.
+mod chain;
+mod fill;
+
+use layout::BYTES;
+use layout::CASH;
+use layout::FLAG;
+use layout::FREE_BLOCKS;
+use layout::FREE_CAPS;
+use layout::FREE_OBJECTS;
+use layout::LINKS;
+use layout::MASTER;
+use layout::NEXT_BLOCK;
+use layout::NEXT_CAP;
+use layout::NEXT_OBJECT;
+use layout::OBJECTS;
+use layout::OWNER;
+use layout::P1;
+use layout::P2;
+use layout::RIGHTS;
+use layout::SERIAL;
+use layout::WORDS;
+ghost use mathlib.Core.Path.{_≡_};
+ghost use lib.ListN.{length};
+ghost use Rattle.layout.specs.Layout as Layout;
+ghost use Rattle.values.specs.Words.{passwordOf};
+ghost use Rattle.kernel_fresh.specs.Slices.{freshBytes, freeLinks, firstLinks, freshLinks, freshWords};
+ghost use Rattle.kernel_fresh.specs.Fresh.{Fresh};
+
+// Object 1 is a process, its marks clear, its box empty.
+fn fresh_bytes(bytes: &mut [u8])
+    requires { ⌜ length (now bytes) ≡ Layout.BYTES ⌝ }
+    ensures { λ _. ⌜ now (bytes .exit) ≡ freshBytes ⌝ }
+{
+    fill::zero_bytes(bytes);
+    bytes[FLAG + 1] = 1;
+}
+
+// Objects and capabilities from 2 on are free, and all blocks.
+fn free_links(links: &mut [u16])
+    requires { ⌜ length (now links) ≡ Layout.LINKS ⌝ }
+    ensures { λ _. ⌜ now (links .exit) ≡ freeLinks (now (links .entry)) ⌝ }
+{
+    chain::free_chain(links, FREE_OBJECTS, NEXT_OBJECT, 2, 64);
+    chain::free_chain(links, FREE_CAPS, NEXT_CAP, 2, 512);
+    chain::free_chain(links, FREE_BLOCKS, NEXT_BLOCK, 1, 512);
+}
+
+// Object 1 is the only one in the chain of objects, and capability 1, with all rights, is its master.
+fn first_links(links: &mut [u16])
+    requires { ⌜ length (now links) ≡ Layout.LINKS ⌝ }
+    ensures { λ _. ⌜ now (links .exit) ≡ firstLinks (now (links .entry)) ⌝ }
+{
+    links[OBJECTS] = 1;
+    links[MASTER + 1] = 1;
+    links[SERIAL + 1] = 1;
+    links[OWNER + 1] = 1;
+    links[RIGHTS + 1] = 8191;
+}
+
+fn fresh_links(links: &mut [u16])
+    requires { ⌜ length (now links) ≡ Layout.LINKS ⌝ }
+    ensures { λ _. ⌜ now (links .exit) ≡ freshLinks ⌝ }
+{
+    fill::zero_links(links);
+    free_links(links);
+    first_links(links);
+}
+
+// The supply is the cash of object 1, the password that of capability 1.
+fn fresh_words(supply: u32, password: [u32; 2], words: &mut [u32])
+    requires { ⌜ length (now words) ≡ Layout.WORDS ⌝ }
+    ensures { λ _. ⌜ now (words .exit) ≡ freshWords supply (passwordOf password) ⌝ }
+{
+    fill::zero_words(words);
+    words[CASH + 1] = supply;
+    words[P1 + 1] = password[0];
+    words[P2 + 1] = password[1];
+}
+
+// Makes a fresh store, and answers 0. Slices of any other length give 1 and are not written.
+pub fn fresh(
+    supply: u32,
+    password: [u32; 2],
+    bytes: &mut [u8],
+    links: &mut [u16],
+    words: &mut [u32],
+) -> u32
+    ensures { λ r. ⌜ Fresh supply (passwordOf password) (now (bytes .entry)) (now (links .entry)) (now (words .entry))
+        (now (bytes .exit)) (now (links .exit)) (now (words .exit)) r ⌝ }
+{
+    if bytes.len() != BYTES {
+        return 1;
+    }
+    if links.len() != LINKS {
+        return 1;
+    }
+    if words.len() != WORDS {
+        return 1;
+    }
+    fresh_bytes(bytes);
+    fresh_links(links);
+    fresh_words(supply, password, words);
+    0
+}

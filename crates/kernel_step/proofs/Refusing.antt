@@ -1,0 +1,135 @@
+-- What a refused call leaves of the store's slices: a run that refuses after the fee changes no more.
+use Prim.Native.Nat.{ℕ, _<_}
+use mathlib.Core.Path.{_≡_, refl, sym, _∙_, subst}
+use mathlib.Core.Logic.{_≢_}
+use mathlib.Core.List.{List, []}
+use native.Mathlib.Omega.{arith}
+use lib.Dec.{eqb}
+use borrow.Author.Tests.{eqb-true}
+use Rattle.rules.specs.Store.{State}
+use Rattle.rules.specs.Rights.{Op, makeObj, read, write, capInfo, deriveCap, deleteCap, renameObj, withdraw}
+use Rattle.rules.specs.Rights.{deposit, suspend, resume, applyLock, send, receive, wait, revive, unknown}
+use Rattle.rules.specs.Rights.{op, feeOf}
+use Rattle.rules.specs.Call.{Call, Choice, code, tells, handsOver}
+use Rattle.rules.specs.Password.{presented}
+use Rattle.rules.specs.Refusals.{caller, early}
+use Rattle.rules.specs.Rule.{paid, late, rule, isDone}
+use Rattle.rules.proofs.Tests.{by-bool, by-eq, pick-yes, pick-not}
+use Rattle.rules.proofs.Ready.{early-low, late-high, slotOf}
+use Rattle.rules.proofs.Answers.{is-done}
+use Rattle.rules.proofs.Outcomes.{rule-by}
+use Rattle.layout.specs.Rows.{parentOf}
+use Rattle.layout.specs.View.{view}
+use Rattle.call_steps.specs.Paying.{terminatedBytes, paidWords}
+use Rattle.call_steps.specs.Replies as Replies
+use Rattle.call_steps.specs.Run.{Ran, over, settled}
+use Rattle.call_steps.proofs.Meeting.{stopped, goes-on}
+use Rattle.call_marks.specs.Runs.{suspendedRun, lockRun, waitRun, reviveRun, infoRun, told}
+use Rattle.call_purse.specs.Calls.{withdrawRun, depositRun}
+use Rattle.call_transfer.specs.Runs.{readRun, writeRun, handed}
+use Rattle.call_mail.specs.Runs.{sendRun, receiveRun, answered}
+use Rattle.call_make.specs.Runs.{makeRun, made}
+use Rattle.call_derive.specs.Runs.{deriveRun, derived}
+use Rattle.call_delete.specs.Runs.{deleteRun}
+use Rattle.call_rename.specs.Runs.{renameRun, renamed}
+use Rattle.kernel_step.specs.Slices.{Slices, slices, Store, stateOf}
+use Rattle.kernel_step.specs.Own.{ownRun}
+use Rattle.kernel_step.specs.Run.{lateRun, stepRun}
+use Rattle.kernel_step.specs.Steps.{Refuses}
+use Rattle.kernel_step.proofs.Showing.{shown-by}
+use Rattle.kernel_step.proofs.Entering.{step-by}
+
+-- the run leaves these slices
+abbrev Leaves : List ℕ → List ℕ → List ℕ → Ran → Type 0
+Leaves b l w x = Store (slices (x .bytes) (x .links) (x .words) [] []) b l w
+
+-- where it is refused
+abbrev Refusing : List ℕ → List ℕ → List ℕ → Ran → Type 0
+Refusing b l w x = x .answer .code ≢ 0 → Leaves b l w x
+
+module _ (b l w : List ℕ) where
+  over-leaves : (n : ℕ) → Leaves b l w (over n b l w)
+  unfolding over
+  over-leaves n = record { bytes = refl; links = refl; words = refl }
+
+  -- x is a done call's run
+  settled-leaves : (n : ℕ) (x : Ran) → x .answer .code ≡ 0 → Refusing b l w (settled n b l w x)
+  settled-leaves n x done = by-eq n 0
+      (λ z. subst (Refusing b l w) (goes-on b l w x z) (λ nz. absurd (nz done)))
+      (λ nz. subst (Refusing b l w) (stopped b l w x n refl nz) (λ _. over-leaves n))
+
+  own-leaves : (c : Call) (me k : ℕ) (o : Op) → Refusing b l w (ownRun b l w c me k o)
+  unfolding ownRun suspendedRun lockRun waitRun reviveRun infoRun told tells readRun writeRun handed handsOver sendRun
+      receiveRun answered withdrawRun depositRun makeRun made deriveRun derived deleteRun renameRun renamed Replies.handed over code
+  own-leaves c me k makeObj = settled-leaves _ _ refl
+  own-leaves c me k read = settled-leaves _ _ refl
+  own-leaves c me k write = settled-leaves _ _ refl
+  own-leaves c me k capInfo = λ nz. absurd (nz refl)
+  own-leaves c me k deriveCap = settled-leaves _ _ refl
+  own-leaves c me k deleteCap = by-bool (eqb (parentOf l k) 0)
+      (λ e. subst (Refusing b l w) (sym (pick-yes (eqb (parentOf l k) 0) _ _ e)) (λ nz. absurd (nz refl)))
+      (λ e. subst (Refusing b l w) (sym (pick-not (eqb (parentOf l k) 0) _ _ e)) (λ nz. absurd (nz refl)))
+  own-leaves c me k renameObj = settled-leaves _ _ refl
+  own-leaves c me k withdraw = settled-leaves _ _ refl
+  own-leaves c me k deposit = settled-leaves _ _ refl
+  own-leaves c me k suspend = settled-leaves _ _ refl
+  own-leaves c me k resume = settled-leaves _ _ refl
+  own-leaves c me k applyLock = settled-leaves _ _ refl
+  own-leaves c me k send = settled-leaves _ _ refl
+  own-leaves c me k receive = settled-leaves _ _ refl
+  own-leaves c me k wait = λ nz. absurd (nz refl)
+  own-leaves c me k revive = settled-leaves _ _ refl
+  own-leaves c me k unknown = λ nz. absurd (nz refl)
+
+  late-leaves : (c : Call) (me : ℕ) → Refusing b l w (lateRun b l w c me)
+  unfolding lateRun
+  late-leaves c me = shown-by b l w c me (presented (view b l w) me (c .presented)) (Refusing b l w)
+      (λ _ _. over-leaves 5)
+      (λ _ _. over-leaves 6)
+      (λ _ _. own-leaves c me _ (op (c .number)))
+
+-- ---- by the code that the rules answer
+
+-- after the fee a refusal's number is above 4
+late-code : (s : State) (c : Call) (h : Choice) → early s c ≡ 0 → rule s c h .answer .code ≢ 0
+    → 4 < rule s c h .answer .code
+unfolding code isDone
+late-code s c h z = rule-by s c h (λ r. r .answer .code ≢ 0 → 4 < r .answer .code)
+    (λ nz. absurd (nz z))
+    (λ _ nz _. late-high (paid s c) c (slotOf s c) nz)
+    (λ _ _ nz. absurd (nz (eqb-true _ 0 (is-done s c h))))
+
+-- the buffer and the scratch are not spoken of
+module _ (was : Slices) (c : Call) (h : Choice) (buffer scratch : List ℕ) where
+  abbrev s : State
+  s = stateOf was
+
+  abbrev Left : Ran → Type 0
+  Left x = rule s c h .answer .code ≡ x .answer .code
+      → Refuses c (x .answer .code) was (slices (x .bytes) (x .links) (x .words) buffer scratch)
+
+  pub step-leaves : Left (stepRun (was .bytes) (was .links) (was .words) c)
+  unfolding over code
+  step-leaves = step-by (was .bytes) (was .links) (was .words) c Left
+      (λ nz n4 _. record {
+        nothing = λ _ _. record { bytes = refl; links = refl; words = refl };
+        marks = λ e. absurd (n4 e);
+        fee = λ high. absurd (omega (arith, early-low s c nz));
+      })
+      (λ e _. record {
+        nothing = λ _ low. absurd (omega arith);
+        marks = λ _. record { bytes = refl; links = refl; words = refl };
+        fee = λ high. absurd (omega arith);
+      })
+      (λ e q.
+      let w′ : List ℕ = paidWords (was .words) (caller s c) (feeOf (c .number)) in
+      let x : Ran = lateRun (was .bytes) (was .links) w′ c (caller s c) in
+      let high : x .answer .code ≢ 0 → 4 < x .answer .code =
+      λ nz. subst (λ n. 4 < n) q (late-code s c h e (λ z. nz (sym q ∙ z))) in
+      record {
+        nothing = λ some low. absurd (omega (arith, high (λ z. omega arith)));
+        marks = λ four. absurd (omega (arith, high (λ z. omega arith)));
+        fee = λ many.
+            let k = late-leaves (was .bytes) (was .links) w′ c (caller s c) (λ z. omega arith) in
+            record { bytes = k .bytes; links = k .links; words = k .words };
+      })

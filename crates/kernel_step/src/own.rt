@@ -1,0 +1,63 @@
+// 01, "A decision over call numbers 1 to 16 chooses the call; all others go to refusal 2".
+ghost use lib.ListN.{length};
+ghost use Rattle.call_steps.specs.Request.{callOf};
+ghost use Rattle.kernel_step.specs.Slices.{slices};
+ghost use Rattle.kernel_step.specs.Asks.{OwnAsks};
+ghost use Rattle.kernel_step.specs.Ends.{OwnEnds};
+use crate::replies;
+use call_delete::delete_cap;
+use call_derive::derive::derive_cap;
+use call_mail::send::send;
+use call_make::make::make_obj;
+use call_marks::lock::apply_lock;
+use call_marks::mark::resume;
+use call_marks::mark::suspend;
+use call_marks::mark::wait;
+use call_marks::revive::revive;
+use call_rename::rename::rename_obj;
+use call_steps::request::Reply;
+use call_steps::request::Request;
+use call_transfer::write::write;
+
+// The call's own part; slot me is the caller's, slot k that of the capability presented.
+pub fn own(
+    bytes: &mut [u8],
+    links: &mut [u16],
+    words: &mut [u32],
+    text: &[u8],
+    buffer: &mut [u8],
+    scratch: &mut [u16],
+    me: usize,
+    k: usize,
+    req: Request,
+) -> Reply
+    requires { ⌜ OwnAsks (now bytes) (now links) (now words)
+        (callOf req (now text) (length (now buffer)) (length (now scratch))) me k ⌝ }
+    ensures { λ r. ⌜ OwnEnds req (now (text .entry)) me k r
+        (slices (now (bytes .entry)) (now (links .entry)) (now (words .entry)) (now (buffer .entry)) (now (scratch .entry)))
+        (slices (now (bytes .exit)) (now (links .exit)) (now (words .exit)) (now (buffer .exit)) (now (scratch .exit))) ⌝ }
+{
+    let n = req.number;
+    let range = req.range;
+    let lock = req.lock;
+    let drawn = req.drawn;
+    match n {
+        1 => make_obj(bytes, links, words, req),
+        2 => replies::read(bytes, links, words, buffer, k, range),
+        3 => Reply::refused(write(bytes, links, words, text, k, range.start, range.end)),
+        4 => replies::cap_info(words, k),
+        5 => derive_cap(bytes, links, words, k, req.rights, range, drawn),
+        6 => Reply::refused(delete_cap(bytes, links, words, scratch, k)),
+        7 => rename_obj(bytes, links, words, scratch, k, drawn),
+        8 => Reply::refused(call_purse::withdraw(links, words, me, k, req.sum)),
+        9 => Reply::refused(call_purse::deposit(links, words, me, k, req.sum)),
+        10 => Reply::refused(suspend(bytes, links, k)),
+        11 => Reply::refused(resume(bytes, links, k)),
+        12 => Reply::refused(apply_lock(bytes, links, words, k, lock)),
+        13 => Reply::refused(send(bytes, links, words, text, me, k, req.sum)),
+        14 => replies::receive(bytes, words, buffer, me),
+        15 => Reply::refused(wait(bytes, me)),
+        16 => Reply::refused(revive(bytes, links, words, me, k, req.sum)),
+        _ => Reply::refused(2),
+    }
+}

@@ -1,0 +1,61 @@
+-- 01's limits by name, each number once on this side: "The store", and the "Argument ranges for 2".
+use Prim.Native.Nat.{ℕ}
+
+-- "Volumes are 0 to 3."
+abbrev pub volume : ℕ
+volume = 3
+
+-- "a serial, 0 to 65,535"
+abbrev pub serial : ℕ
+serial = 65535
+
+-- "At most 64 objects live."
+abbrev pub objects : ℕ
+objects = 64
+
+-- "a size of 0 to 8,192 bytes"
+abbrev pub size : ℕ
+size = 8192
+
+-- "held in blocks of 64 bytes, 512 in all"
+abbrev pub block : ℕ
+block = 64
+
+abbrev pub blocks : ℕ
+blocks = 512
+
+-- "At most 512 live in the store.", of capabilities
+abbrev pub caps : ℕ
+caps = 512
+
+-- "a box of at most 4 messages"
+abbrev pub box : ℕ
+box = 4
+
+-- "A message is 0 to 16 bytes"
+abbrev pub message : ℕ
+message = 16
+
+-- "Rights add up, 0 to 8191"
+abbrev pub rights : ℕ
+rights = 8191
+
+-- "a read or write of at most 256 bytes"
+abbrev pub transfer : ℕ
+transfer = 256
+
+-- "answer buffer of at least 256 bytes"
+abbrev pub buffer : ℕ
+buffer = 256
+
+-- "scratch of at least 512 16-bit numbers"
+abbrev pub scratch : ℕ
+scratch = 512
+
+-- "a lock's first word below 2,147,483,648"; "If the presented p1 is 2,147,483,648 or more"
+abbrev pub top : ℕ
+top = 2147483648
+
+-- the largest 32-bit number: "the money total is at most 4,294,967,295"
+abbrev pub word : ℕ
+word = 4294967295

@@ -1,0 +1,18 @@
+-- The numbers at their places.
+use Rattle.script_lines.proofs.request.derived.Statement.{statement}
+use Rattle.script_lines.proofs.request.derived.Tie as tie
+
+nth-requires : tie.Need-nth-requires
+nth-requires c κs = tt
+
+nth-requires-2 : tie.Need-nth-requires-2
+nth-requires-2 c κs = tt
+
+nth-requires-3 : tie.Need-nth-requires-3
+nth-requires-3 c κs = tt
+
+returns : tie.Need-returns
+returns c = cc
+
+pub derived-spec : {M : Type 1} → statement M
+derived-spec = tie.close (tie.spec nth-requires nth-requires-2 nth-requires-3 returns)

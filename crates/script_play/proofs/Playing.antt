@@ -1,0 +1,130 @@
+-- A line's call is what the rules' call of its numbers is, and its answer's line is theirs.
+use Prim.Native.Nat.{ℕ, _+_, _≤_}
+use mathlib.Core.Path.{_≡_, refl, sym, ap, subst, _∙_}
+use mathlib.Core.Bool.{true, false, true≢false, false≢true}
+use mathlib.Core.List.{List, [], _∷_}
+use native.Mathlib.Omega.{arith}
+use lib.ListN.{length, take, length-take}
+use Rattle.rules.specs.Store.{State}
+use Rattle.rules.specs.Rights.{Op, makeObj, read, write, capInfo, deriveCap, deleteCap, renameObj, withdraw}
+use Rattle.rules.specs.Rights.{deposit, suspend, resume, applyLock, send, receive, wait, revive, unknown, op}
+use Rattle.rules.specs.Call.{Call, Outcome, Choice, code}
+use Rattle.rules.specs.Rule.{rule}
+use Rattle.rules.specs.Demand.{Allowed}
+use Rattle.rules.specs.Script.{nth, lineFits, callWith, answerOf}
+use Rattle.rules.specs.Script.{callOf as lineCall}
+use Rattle.rules.proofs.Tests.{pick-yes, pick-not}
+use Rattle.layout.specs.View.{view}
+use Rattle.layout.specs.WellFormed.{WellFormed}
+use Rattle.call_steps.specs.declared.request.Request.{Request}
+use Rattle.call_steps.specs.declared.request.Reply.{Reply}
+use Rattle.call_steps.specs.Request.{callOf}
+use Rattle.call_steps.specs.Request.{answerOf as replyAnswer}
+use Rattle.kernel_step.specs.Slices.{Slices, slices, callOn}
+use Rattle.kernel_step.specs.Steps.{Stepped}
+use Rattle.script_text.specs.Numeral.{lineOf}
+use Rattle.script_text.specs.Pasted.{Put}
+use Rattle.script_answers.specs.Pushed.{BytesCounted}
+use Rattle.script_play.specs.Plays.{lineWith, Unchanged, Played}
+
+-- ---- the rules of a line
+
+line-good : (h : Choice) (s : State) (ns : List ℕ) → lineFits (op (nth ns 0)) ns ≡ true
+    → lineWith h s ns ≡ rule s (lineCall (op (nth ns 0)) ns) h
+unfolding lineWith
+line-good h s ns e = pick-yes (lineFits (op (nth ns 0)) ns) _ _ e
+
+line-bad : (h : Choice) (s : State) (ns : List ℕ) → lineFits (op (nth ns 0)) ns ≡ false
+    → lineWith h s ns ≡ record { answer = code 2; after = s }
+unfolding lineWith
+line-bad h s ns e = pick-not (lineFits (op (nth ns 0)) ns) _ _ e
+
+-- a line's call has the line's first number
+line-number : (o : Op) (l : List ℕ) → lineCall o l .number ≡ nth l 0
+unfolding lineCall callWith
+line-number makeObj l = refl
+line-number read l = refl
+line-number write l = refl
+line-number capInfo l = refl
+line-number deriveCap l = refl
+line-number deleteCap l = refl
+line-number renameObj l = refl
+line-number withdraw l = refl
+line-number deposit l = refl
+line-number suspend l = refl
+line-number resume l = refl
+line-number applyLock l = refl
+line-number send l = refl
+line-number receive l = refl
+line-number wait l = refl
+line-number revive l = refl
+line-number unknown l = refl
+
+-- ---- a line that fits its call
+
+-- its request is its call
+same-call : (q : Request) (ns text buffer scratch : List ℕ)
+    → callOf q (lineCall (op (nth ns 0)) ns .bytes) 256 512 ≡ lineCall (op (nth ns 0)) ns
+    → text ≡ lineCall (op (nth ns 0)) ns .bytes → length buffer ≡ 256 → length scratch ≡ 512
+    → callOf q text (length buffer) (length scratch) ≡ lineCall (op (nth ns 0)) ns
+same-call q ns text buffer scratch asked t b s = rw (t, b, s) asked
+
+same-number : (q : Request) (ns : List ℕ)
+    → callOf q (lineCall (op (nth ns 0)) ns .bytes) 256 512 ≡ lineCall (op (nth ns 0)) ns
+    → q .number ≡ nth ns 0
+unfolding callOf
+same-number q ns asked = ap (λ (c : Call). c .number) asked ∙ line-number (op (nth ns 0)) ns
+
+-- the bytes that a reply counts are within the buffer
+pub counted : {q : Request} {text : List ℕ} {r : Reply} {was is : Slices} → Stepped q text r was is
+    → length (is .buffer) ≡ 256 → BytesCounted (is .buffer) (r .count)
+counted {r = r} {is = is} st size =
+    let e : length (take (r .count) (is .buffer)) ≡ r .count = st .rules .count in
+    record { low = omega (arith, length-take (r .count) (is .buffer)); high = omega (arith, length-take (r .count) (is .buffer)) }
+
+pub good-played : (q : Request) (r : Reply) (ns text b l w buffer scratch b′ l′ w′ buffer′ scratch′ out out′ : List ℕ) (number at n : ℕ)
+    → lineFits (op (nth ns 0)) ns ≡ true
+    → callOf q (lineCall (op (nth ns 0)) ns .bytes) 256 512 ≡ lineCall (op (nth ns 0)) ns
+    → text ≡ lineCall (op (nth ns 0)) ns .bytes → length buffer ≡ 256 → length scratch ≡ 512
+    → Stepped q text r (slices b l w buffer scratch) (slices b′ l′ w′ buffer′ scratch′)
+    → Put 2860 out at (lineOf (number ∷ answerOf (op (q .number)) (replyAnswer r (take (r .count) buffer′)))) out′ n
+    → Played ns number b l w b′ l′ w′ out at out′ n
+good-played q r ns text b l w buffer scratch b′ l′ w′ buffer′ scratch′ out out′ number at n fits asked t bs ss st put =
+    let e : callOf q text (length buffer) (length scratch) ≡ lineCall (op (nth ns 0)) ns = same-call q ns text buffer scratch asked t bs ss in
+    let m : q .number ≡ nth ns 0 = same-number q ns asked in
+    record {
+      choice = st .rules .choice;
+      allowed = λ _. subst (λ (c : Call). Allowed (view b l w) c (st .rules .choice)) e (st .rules .allowed);
+      answer = replyAnswer r (take (r .count) buffer′);
+      rules = line-good (st .rules .choice) (view b l w) ns fits
+          ∙ ap (λ (c : Call). rule (view b l w) c (st .rules .choice)) (sym e) ∙ st .rules .rules;
+      bad = λ f. absurd (true≢false (sym fits ∙ f));
+      formed = st .rules .formed;
+      wrote = subst (λ (k : ℕ). Put 2860 out at (lineOf (number ∷ answerOf (op k) (replyAnswer r (take (r .count) buffer′)))) out′ n) m put;
+    }
+
+-- ---- a bad line
+
+refusal-line : (o : Op) → answerOf o (code 2) ≡ 2 ∷ []
+unfolding answerOf code
+refusal-line o = refl
+
+no-choice : Choice
+no-choice = record { object = 0; cap = 0 }
+
+pub bad-played : {ns b l w out out′ : List ℕ} {number at n : ℕ} → WellFormed b l w
+    → lineFits (op (nth ns 0)) ns ≡ false
+    → Put 22 out at (lineOf (number ∷ 2 ∷ [])) out′ n
+    → Played ns number b l w b l w out at out′ n
+bad-played {ns} {b} {l} {w} {out} {out′} {number} {at} {n} f bad put = record {
+  choice = no-choice;
+  allowed = λ g. absurd (true≢false (sym g ∙ bad));
+  answer = code 2;
+  rules = line-bad no-choice (view b l w) ns bad;
+  bad = λ _. record { bytes = refl; links = refl; words = refl };
+  formed = f;
+  wrote = record {
+    wrote = subst (λ (k : List ℕ). Put 22 out at (lineOf (number ∷ k)) out′ n) (sym (refusal-line (op (nth ns 0)))) put .wrote;
+    room = omega (arith, put .room);
+  };
+}

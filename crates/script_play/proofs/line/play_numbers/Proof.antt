@@ -1,0 +1,57 @@
+-- `play_numbers` goes by whether the numbers fit their call.
+use mathlib.Core.Path.{sym, _∙_}
+use Rattle.script_play.proofs.Playing.{bad-played}
+use borrow.Author.Needs.{needs}
+use Rattle.script_play.proofs.line.play_numbers.Statement.{statement}
+use Rattle.script_play.proofs.line.play_numbers.Tie as tie
+
+line-fits-requires : tie.Need-line-fits-requires
+line-fits-requires c κs = search needs
+
+good-line-requires : tie.Need-good-line-requires
+good-line-requires c κs =
+    let t = c .before .before .before .before in
+    let a = t .before .before .before .before .before .before .before in
+    record { play = a .pre .0; fits = sym (t .before .line-fits .ensures) ∙ t .if1 .taken; few = a .pre .1 }
+
+same-length : tie.Need-same-length
+same-length c = search needs
+
+same-length-2 : tie.Need-same-length-2
+same-length-2 c = search needs
+
+same-length-3 : tie.Need-same-length-3
+same-length-3 c = search needs
+
+same-length-4 : tie.Need-same-length-4
+same-length-4 c = search needs
+
+returns : tie.Need-returns
+returns c = search needs
+
+bad-line-requires : tie.Need-bad-line-requires
+bad-line-requires c κs = search needs
+
+same-length-5 : tie.Need-same-length-5
+same-length-5 c = search needs
+
+returns-2 : tie.Need-returns-2
+returns-2 c =
+    let e = c .before .before .before .before in
+    let a = e .before .before .before .before .before .before .before in
+    bad-played (a .pre .0 .formed) (sym (e .before .line-fits .ensures) ∙ e .if1 .left) (c .before .before .bad-line .ensures)
+
+pub play-numbers-spec : {M : Type 1} → statement M
+play-numbers-spec =
+    tie.close
+    (tie.spec
+    line-fits-requires
+    good-line-requires
+    same-length
+    same-length-2
+    same-length-3
+    same-length-4
+    returns
+    bad-line-requires
+    same-length-5
+    returns-2)

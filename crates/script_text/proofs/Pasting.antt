@@ -1,0 +1,174 @@
+-- What is written into a slice, part after part.
+use Prim.Native.Nat.{ℕ, suc, _+_, _-_, _*_, _≤_, _<_}
+use mathlib.Core.Path.{_≡_, refl, sym, ap, _∙_, subst}
+use mathlib.Core.List.{List, [], _∷_, _++_, append-assoc, append-nil}
+use native.Mathlib.Omega.{arith}
+use native.Mathlib.Numerals.{add-one}
+use native.Mathlib.Nat.{add-assoc, add-zero}
+use lib.ListN.{length, getD, take, drop, set, length-append, length-drop, take-append-drop, drop-of-length-le}
+use lib.Seq.{take-all, take-length, take-suc, drop-drop, set-split, append-snoc, take-at, length-take-le, drop-append-add}
+use Rattle.io.specs.Digits.{digits, Fewest}
+use Rattle.script_text.specs.Numeral.{numeral, after, spaced, lineOf}
+use Rattle.script_text.specs.Pasted.{pasted, Wrote, Put}
+use Rattle.script_text.proofs.Numerals.{fewest-digits, numeral-length}
+
+pub wrote-byte : (out : List ℕ) (at b : ℕ) → at < length out → Wrote out at (b ∷ []) (set out at b) (at + 1)
+unfolding pasted
+wrote-byte out at b h = record {
+  is = set-split out at b h ∙ sym (append-snoc (take at out) b (drop (suc at) out))
+      ∙ ap (λ (k : ℕ). (take at out ++ (b ∷ [])) ++ drop k out) (sym (add-one at));
+  end = refl;
+}
+
+-- a part from place `at` on was lent, and has text in front
+put-part : (out text : List ℕ) (at : ℕ) → at ≤ length out
+    → take at out ++ ((take (length text) text ++ drop (length text) (take (length out - at) (drop at out)))
+    ++ drop (length out - at) (drop at out))
+    ≡ pasted out at text
+unfolding pasted
+put-part out text at h =
+    ap (λ (l : List ℕ). take at out ++ ((take (length text) text ++ drop (length text) (take (length out - at) (drop at out))) ++ l))
+    (drop-of-length-le (drop at out) {i = length out - at} (omega (arith, length-drop at out)))
+    ∙ ap (λ (l : List ℕ). take at out ++ l) (append-nil (take (length text) text ++ drop (length text) (take (length out - at) (drop at out))))
+    ∙ ap (λ (l : List ℕ). take at out ++ (l ++ drop (length text) (take (length out - at) (drop at out)))) (take-length text)
+    ∙ ap (λ (l : List ℕ). take at out ++ (text ++ drop (length text) l))
+    (take-all (length out - at) (drop at out) (omega (arith, length-drop at out)))
+    ∙ ap (λ (l : List ℕ). take at out ++ (text ++ l)) (drop-drop (length text) at out)
+    ∙ sym (append-assoc (take at out) text (drop (at + length text) out))
+
+-- the digits of n stand in front of buf, of which k are copied
+pub wrote-number : (out buf back : List ℕ) (at n k : ℕ) → at + 10 ≤ length out → Fewest 10 1 n k → take k buf ≡ digits 10 k n
+    → k ≡ length (take k buf)
+    → back ≡ take (length (take k buf)) (take k buf) ++ drop (length (take k buf)) (take (length out - at) (drop at out))
+    → Wrote out at (numeral n) (take at out ++ (back ++ drop (length out - at) (drop at out))) (at + k)
+wrote-number out buf back at n k room few is long e =
+    let text : take k buf ≡ numeral n = is ∙ fewest-digits k n few in
+    record {
+      is = ap (λ (l : List ℕ). take at out ++ (l ++ drop (length out - at) (drop at out))) e
+          ∙ put-part out (take k buf) at (omega arith) ∙ ap (pasted out at) text;
+      end = ap (λ (m : ℕ). at + m) (long ∙ ap length text);
+    }
+
+-- there is room for them
+pub number-places : (buf : List ℕ) (n k : ℕ) → n ≤ 4294967295 → Fewest 10 1 n k → take k buf ≡ digits 10 k n
+    → k ≡ length (take k buf) → k ≤ 10
+number-places buf n k fits few is long = omega (arith, long, ap length (is ∙ fewest-digits k n few), numeral-length n fits)
+
+pub part-room : (out : List ℕ) (at m : ℕ) → at + 10 ≤ length out → m ≤ 10 → m ≤ length (take (length out - at) (drop at out))
+part-room out at m room h =
+    let all : take (length out - at) (drop at out) ≡ drop at out =
+    take-all (length out - at) (drop at out) (omega (arith, length-drop at out)) in
+    omega (arith, ap length all, length-drop at out)
+
+-- ---- one text after another
+
+front-length : (out s : List ℕ) (at : ℕ) → at ≤ length out → length (take at out ++ s) ≡ at + length s
+front-length out s at h = length-append (take at out) s ∙ ap (λ (n : ℕ). n + length s) (length-take-le at out h)
+
+rest-after : (out s : List ℕ) (at n : ℕ) → at ≤ length out
+    → drop (at + length s + n) ((take at out ++ s) ++ drop (at + length s) out) ≡ drop (at + (length s + n)) out
+rest-after out s at n h =
+    ap (λ (k : ℕ). drop (k + n) ((take at out ++ s) ++ drop (at + length s) out)) (sym (front-length out s at h))
+    ∙ drop-append-add (take at out ++ s) (drop (at + length s) out) n
+    ∙ drop-drop n (at + length s) out
+    ∙ ap (λ (k : ℕ). drop k out) (add-assoc at (length s) n)
+
+pasted-after : (out s t : List ℕ) (at : ℕ) → at ≤ length out
+    → pasted (pasted out at s) (at + length s) t ≡ pasted out at (s ++ t)
+unfolding pasted
+pasted-after out s t at h =
+    ap (λ (l : List ℕ). l ++ t ++ drop (at + length s + length t) ((take at out ++ s) ++ drop (at + length s) out))
+    (take-at (take at out ++ s) (drop (at + length s) out) (at + length s) (front-length out s at h))
+    ∙ ap (λ (l : List ℕ). (take at out ++ s) ++ t ++ l) (rest-after out s at (length t) h)
+    ∙ ap (λ (l : List ℕ). l ++ drop (at + (length s + length t)) out) (append-assoc (take at out) s t)
+    ∙ ap (λ (k : ℕ). (take at out ++ (s ++ t)) ++ drop (at + k) out) (sym (length-append s t))
+
+pub wrote-then : {out mid out′ s t : List ℕ} {at p q : ℕ} → Wrote out at s mid p → Wrote mid p t out′ q → at ≤ length out
+    → Wrote out at (s ++ t) out′ q
+wrote-then {out} {mid} {out′} {s} {t} {at} {p} {q} a b h = record {
+  is = b .is ∙ ap (λ (l : List ℕ). pasted l p t) (a .is) ∙ ap (λ (k : ℕ). pasted (pasted out at s) k t) (a .end)
+      ∙ pasted-after out s t at h;
+  end = b .end ∙ ap (λ (k : ℕ). k + length t) (a .end) ∙ add-assoc at (length s) (length t)
+      ∙ ap (λ (k : ℕ). at + k) (sym (length-append s t));
+}
+
+-- nothing
+pub wrote-none : (out : List ℕ) (at : ℕ) → Wrote out at [] out at
+unfolding pasted
+wrote-none out at = record {
+  is = sym (ap (λ (l : List ℕ). l ++ drop (at + 0) out) (append-nil (take at out))
+      ∙ ap (λ (k : ℕ). take at out ++ drop k out) (add-zero at) ∙ take-append-drop at out);
+  end = omega arith;
+}
+
+-- a number takes ten places at most
+pub number-end : {out out′ : List ℕ} {at n r : ℕ} → Wrote out at (numeral n) out′ r → n ≤ 4294967295 → r ≤ at + 10
+number-end {n = n} w h = omega (arith, w .end, numeral-length n h)
+
+-- ---- numbers with a space before each
+
+after-snoc : (ns : List ℕ) (n : ℕ) → after (ns ++ (n ∷ [])) ≡ after ns ++ (32 ∷ numeral n)
+unfolding after
+after-snoc [] n = ap (λ (l : List ℕ). 32 ∷ l) (append-nil (numeral n))
+after-snoc (m ∷ ns) n =
+    ap (λ (l : List ℕ). 32 ∷ numeral m ++ l) (after-snoc ns n)
+    ∙ ap (λ (l : List ℕ). 32 ∷ l) (sym (append-assoc (numeral m) (after ns) (32 ∷ numeral n)))
+
+-- the first i of ns are written
+pub record Putting (out₀ : List ℕ) (at : ℕ) (ns out : List ℕ) (p i : ℕ) : Type 0 where
+  pub wrote : Wrote out₀ at (after (take i ns)) out p
+  pub size : length out ≡ length out₀
+  pub within : i ≤ length ns
+  pub room : p ≤ at + 11 * i
+
+pub putting-none : (out : List ℕ) (at : ℕ) (ns : List ℕ) → Putting out at ns out at 0
+unfolding after
+putting-none out at ns = record { wrote = wrote-none out at; size = refl; within = omega arith; room = omega arith }
+
+pub putting-more : (out₀ : List ℕ) (at : ℕ) (ns out : List ℕ) (p i : ℕ) (mid out′ : List ℕ) (q r : ℕ)
+    → Putting out₀ at ns out p i → at ≤ length out₀ → i < length ns → getD ns i 0 ≤ 4294967295
+    → Wrote out p (32 ∷ []) mid q → Wrote mid q (numeral (getD ns i 0)) out′ r → length out′ ≡ length out
+    → Putting out₀ at ns out′ r (i + 1)
+putting-more out₀ at ns out p i mid out′ q r g h inside fits space number size = record {
+  wrote = subst (λ (t : List ℕ). Wrote out₀ at t out′ r)
+      (append-assoc (after (take i ns)) (32 ∷ []) (numeral (getD ns i 0))
+      ∙ sym (after-snoc (take i ns) (getD ns i 0))
+      ∙ ap after (sym (take-suc ns i 0 inside) ∙ ap (λ (k : ℕ). take k ns) (sym (add-one i))))
+      (wrote-then (wrote-then (g .wrote) space h) number h);
+  size = size ∙ g .size;
+  within = omega arith;
+  room = omega (arith, g .room, space .end, number-end number fits);
+}
+
+pub putting-all : (out₀ : List ℕ) (at : ℕ) (ns out : List ℕ) (p i : ℕ) → Putting out₀ at ns out p i → length ns ≤ i
+    → Put (11 * length ns) out₀ at (after ns) out p
+putting-all out₀ at ns out p i g h = record {
+  wrote = subst (λ (l : List ℕ). Wrote out₀ at (after l) out p) (take-all i ns h) (g .wrote);
+  room = omega (arith, g .room, g .within);
+}
+
+others-length : (ns : List ℕ) → length (take (length ns - 1) (drop 1 ns)) ≡ length ns - 1
+others-length ns = length-take-le (length ns - 1) (drop 1 ns) (omega (arith, length-drop 1 ns))
+
+pub others-room : (ns : List ℕ) (at p : ℕ) {m n : ℕ} → p ≤ at + 10 → m ≡ n → 1 ≤ length ns → at + 11 * length ns ≤ n
+    → p + 11 * length (take (length ns - 1) (drop 1 ns)) ≤ m
+others-room ns at p first same some room = omega (arith, others-length ns)
+
+pub end-room : (ns : List ℕ) (at p q : ℕ) {m n : ℕ} → p ≤ at + 10 → q ≤ p + 11 * length (take (length ns - 1) (drop 1 ns))
+    → m ≡ n → 1 ≤ length ns → at + 11 * length ns ≤ n → q < m
+end-room ns at p q first others same some room = omega (arith, others-length ns)
+
+-- the first of ns, the others each with a space before it, and the line's end
+pub put-all : (out : List ℕ) (at : ℕ) (ns one two out′ : List ℕ) (p q r : ℕ) → 1 ≤ length ns → at ≤ length out
+    → Put 10 out at (numeral (getD ns 0 0)) one p
+    → Put (11 * length (take (length ns - 1) (drop 1 ns))) one p (after (take (length ns - 1) (drop 1 ns))) two q
+    → Wrote two q (10 ∷ []) out′ r → Put (11 * length ns) out at (lineOf ns) out′ r
+unfolding spaced lineOf
+put-all out at [] one two out′ p q r some h first others end = absurd (omega arith)
+put-all out at (n ∷ ns) one two out′ p q r some h first others end =
+    let all : take (suc (length ns) - 1) ns ≡ ns = take-all (suc (length ns) - 1) ns (omega arith) in
+    record {
+      wrote = subst (λ (l : List ℕ). Wrote out at ((numeral n ++ after l) ++ (10 ∷ [])) out′ r) all
+          (wrote-then (wrote-then (first .wrote) (others .wrote) h) end h);
+      room = omega (arith, first .room, others .room, end .end, ap length all);
+    }

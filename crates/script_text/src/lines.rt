@@ -1,0 +1,12 @@
+// Lines in a window of bytes.
+ghost use Prim.Native.Nat.{_≤_};
+ghost use lib.ListN.{length};
+ghost use Rattle.script_text.specs.Lines.{EndsLine};
+
+// The place of the first byte 10 from place `from` on, or `to` where none stands before it.
+pub fn line_end(buf: &[u8], from: usize, to: usize) -> usize
+    requires { ⌜ (from ≤ to) × (to ≤ length (now buf)) ⌝ }
+    ensures { λ r. ⌜ EndsLine (now (buf .entry)) from to r ⌝ }
+{
+    bytes::scan::find(buf, from, to, 10)
+}

@@ -1,0 +1,128 @@
+// A line of numbers is read: sound and complete, for any bytes.
+ghost use Prim.Native.Nat.{_≤_};
+ghost use mathlib.Core.Path.{_≡_};
+ghost use lib.ListN.{length};
+ghost use Rattle.script_text.specs.Scan.{ScanOnIs, NumberAt, ReadIs, LineIs};
+ghost use Rattle.script_text.specs.Scan.{isDigit, extends as Scan·extends};
+
+// A number, and the place after it.
+struct Number {
+    pub ok: bool,
+    pub value: u32,
+    pub end: usize,
+}
+
+// Whether a line says numbers, and how many.
+pub struct Read {
+    pub ok: bool,
+    pub count: usize,
+}
+
+fn is_digit(b: u8) -> bool
+    ensures { λ r. ⌜ r ≡ isDigit b ⌝ }
+{
+    48 <= b && b <= 57
+}
+
+// Byte b goes on with a number whose digits so far say `value`.
+fn extends(value: u64, b: u8) -> bool
+    requires { ⌜ value ≤ 4294967295 ⌝ }
+    ensures { λ r. ⌜ r ≡ Scan·extends value b ⌝ }
+{
+    if value == 0 {
+        return false;
+    }
+    if is_digit(b) {
+        return value * 10 + (b - 48) as u64 <= 4294967295;
+    }
+    false
+}
+
+// What goes on from place `at`, after digits that say `first`.
+fn digits_on(line: &[u8], at: usize, first: u64) -> Number
+    requires { ⌜ at ≤ length (now line) ⌝ ∗ ⌜ first ≤ 4294967295 ⌝ }
+    ensures { λ r. ⌜ ScanOnIs (now (line .entry)) at first r ⌝ }
+{
+    let mut value = first;
+    let mut i = at;
+    while i < line.len() {
+        let b = line[i];
+        if b == 32 {
+            return Number {
+                ok: true,
+                value: value as u32,
+                end: i,
+            };
+        }
+        if extends(value, b) {
+            value = value * 10 + (b - 48) as u64;
+            i += 1;
+        } else {
+            return Number {
+                ok: false,
+                value: 0,
+                end: line.len(),
+            };
+        }
+    }
+    Number {
+        ok: true,
+        value: value as u32,
+        end: line.len(),
+    }
+}
+
+// The number at place `at`: its digits, to a space or the line's end.
+fn number_at(line: &[u8], at: usize) -> Number
+    ensures { λ r. ⌜ NumberAt (now (line .entry)) at r ⌝ }
+{
+    if at < line.len() {
+        let b = line[at];
+        if is_digit(b) {
+            return digits_on(line, at + 1, (b - 48) as u64);
+        }
+    }
+    Number {
+        ok: false,
+        value: 0,
+        end: line.len(),
+    }
+}
+
+// The numbers of a line, into the front of `out`.
+pub fn read_numbers(line: &[u8], out: &mut [u32]) -> Read
+    ensures { λ r. ⌜ ReadIs (now (line .entry)) (now (out .entry)) (now (out .exit)) r ⌝ }
+{
+    let mut at = 0;
+    let mut count = 0;
+    while count < out.len() {
+        let n = number_at(line, at);
+        if n.ok {
+            let end = n.end;
+            out[count] = n.value;
+            count += 1;
+            if end == line.len() {
+                return Read { ok: true, count };
+            }
+            at = end + 1;
+        } else {
+            return Read { ok: false, count };
+        }
+    }
+    Read { ok: false, count }
+}
+
+// The numbers that a line has, into the front of `out`, and how many they are: none of a bad line.
+pub fn read_line(line: &[u8], out: &mut [u32]) -> usize
+    requires { ⌜ 1024 ≤ length (now out) ⌝ }
+    ensures { λ r. ⌜ LineIs (now (line .entry)) (now (out .entry)) (now (out .exit)) r ⌝ }
+{
+    if line.len() > 2048 {
+        return 0;
+    }
+    let read = read_numbers(line, out);
+    if read.ok {
+        return read.count;
+    }
+    0
+}

@@ -1,0 +1,51 @@
+// Numbers and lines are written into a slice, from a place on; the rest of the slice is as it was. Each function answers
+// the place after what it wrote.
+ghost use Prim.Native.Nat.{_+_, _*_, _≤_, _<_};
+ghost use mathlib.Core.List.{[], _∷_};
+ghost use lib.ListN.{length};
+ghost use Rattle.script_text.specs.Numeral.{numeral, after, lineOf};
+ghost use Rattle.script_text.specs.Pasted.{Wrote, Put};
+
+pub fn put_byte(out: &mut [u8], at: usize, b: u8) -> usize
+    requires { ⌜ at < length (now out) ⌝ }
+    ensures { λ r. ⌜ Wrote (now (out .entry)) at (b ∷ []) (now (out .exit)) r ⌝ }
+{
+    out[at] = b;
+    at + 1
+}
+
+// The digits of n, of which there are ten at most.
+pub fn put_number(out: &mut [u8], at: usize, n: u32) -> usize
+    requires { ⌜ at + 10 ≤ length (now out) ⌝ }
+    ensures { λ r. ⌜ Put 10 (now (out .entry)) at (numeral n) (now (out .exit)) r ⌝ }
+{
+    let mut text = [0u8; 20];
+    let k = io::decimal(n as u64, &mut text);
+    bytes::copy(&text[..k], &mut out[at..]);
+    at + k
+}
+
+// Each number with a space before it.
+pub fn put_after(out: &mut [u8], at: usize, numbers: &[u32]) -> usize
+    requires { ⌜ at + 11 * length (now numbers) ≤ length (now out) ⌝ }
+    ensures { λ r. ⌜ Put (11 * length (now (numbers .entry))) (now (out .entry)) at (after (now (numbers .entry))) (now (out .exit)) r ⌝ }
+{
+    let mut p = at;
+    let mut i = 0;
+    while i < numbers.len() {
+        let q = put_byte(out, p, 32);
+        p = put_number(out, q, numbers[i]);
+        i += 1;
+    }
+    p
+}
+
+// A line of numbers, and its end.
+pub fn put_line(out: &mut [u8], at: usize, numbers: &[u32]) -> usize
+    requires { ⌜ 1 ≤ length (now numbers) ⌝ ∗ ⌜ at + 11 * length (now numbers) ≤ length (now out) ⌝ }
+    ensures { λ r. ⌜ Put (11 * length (now (numbers .entry))) (now (out .entry)) at (lineOf (now (numbers .entry))) (now (out .exit)) r ⌝ }
+{
+    let p = put_number(out, at, numbers[0]);
+    let q = put_after(out, p, &numbers[1..]);
+    put_byte(out, q, 10)
+}

@@ -1,0 +1,91 @@
+-- Demand 3 about stores: the slices, as the contracts of `fresh` and of `call` leave them, call after call.
+use Prim.Native.Nat.{ℕ}
+use mathlib.Core.Path.{_≡_}
+use mathlib.Core.Bool.{Bool, true}
+use mathlib.Core.List.{List, [], _∷_, _++_}
+use lib.Dec.{eqb}
+use Rattle.rules.specs.Store.{Password}
+use Rattle.rules.specs.Rights.{deleteCap, op}
+use Rattle.rules.specs.Call.{Call}
+use Rattle.rules.specs.Ledger.{Ledger, book, opening}
+use Rattle.rules.specs.Demand.{FreshWords, Now, Claims, Ended}
+use Rattle.layout.specs.View.{view}
+use Rattle.kernel_fresh.specs.Fresh.{Fresh}
+use Rattle.call_steps.specs.declared.request.Request.{Request}
+use Rattle.call_steps.specs.declared.request.Reply.{Reply}
+use Rattle.kernel_step.specs.Slices.{Slices, slices, callOn}
+use Rattle.kernel_call.specs.Calls.{Calls}
+
+-- a store: three slices
+pub record Store : Type 0 where
+  pub bytes : List ℕ
+  pub links : List ℕ
+  pub words : List ℕ
+
+-- with an answer buffer and a scratch, the slices of a call
+abbrev pub lent : Store → List ℕ → List ℕ → Slices
+lent s buffer scratch = slices (s .bytes) (s .links) (s .words) buffer scratch
+
+-- one call of a run: the request, the bytes that come with it, the buffer and the scratch that are lent; then the reply,
+-- and the store, the buffer and the scratch that it leaves
+pub record Event : Type 0 where
+  pub request : Request
+  pub text : List ℕ
+  pub buffer : List ℕ
+  pub scratch : List ℕ
+  pub reply : Reply
+  pub store : Store
+  pub buffer-after : List ℕ
+  pub scratch-after : List ℕ
+
+-- the call that it makes on the store s
+abbrev pub callAt : Store → Event → Call
+callAt s e = callOn (e .request) (e .text) (lent s (e .buffer) (e .scratch))
+
+-- it is as the contract of `call` says
+abbrev pub Happens : Store → Event → Type 0
+Happens s e = Calls (e .request) (e .text) (e .reply) (lent s (e .buffer) (e .scratch))
+    (lent (e .store) (e .buffer-after) (e .scratch-after))
+
+-- a run: each call is made on the store that the one before it left
+unfoldable pub Runs : Store → List Event → Type 0
+Runs s [] = Unit {0}
+Runs s (e ∷ es) = Happens s e × Runs (e .store) es
+
+-- the store that it leaves
+unfoldable pub lastStore : Store → List Event → Store
+lastStore s [] = s
+lastStore s (e ∷ es) = lastStore (e .store) es
+
+-- the call was done
+abbrev pub isDone : Event → Bool
+isDone e = eqb (e .reply .code) 0
+
+-- the ledger is fed each call and whether it was done, nothing of the store
+unfoldable pub booked : Ledger → Store → List Event → Ledger
+booked l s [] = l
+booked l s (e ∷ es) = booked (book l (callAt s e) (isDone e)) (e .store) es
+
+-- what the store means and the ledger beside it, after these calls
+abbrev pub after : Password → Store → List Event → Now
+after p s es =
+    let z : Store = lastStore s es in
+    record { store = view (z .bytes) (z .links) (z .words); ledger = booked (opening p) s es }
+
+-- of a run from s: the claims hold at its end, and each done delete in it ended what it should
+pub record Holds (p : Password) (s : Store) (es : List Event) : Type 0 where
+  pub claims : Claims (after p s es)
+  pub deletes : (front back : List Event) (e : Event)
+      → es ≡ front ++ e ∷ back
+      → op (e .request .number) ≡ deleteCap
+      → isDone e ≡ true
+      → Ended (after p s front) (callAt (lastStore s front) e) (after p s (front ++ e ∷ []))
+
+-- Demand 3: after every list of calls from a fresh store, whatever stood in the slices before
+unfoldable pub Demand3 : Type 0
+Demand3 =
+    (supply : ℕ) (p : Password) → FreshWords supply p
+    → (old new : Store)
+    → Fresh supply p (old .bytes) (old .links) (old .words) (new .bytes) (new .links) (new .words) 0
+    → (es : List Event) → Runs new es
+    → Holds p new es
