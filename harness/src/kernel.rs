@@ -1,7 +1,7 @@
 //! The verified kernel's C functions as safe functions on slices. All unsafe code is here.
 
 use crate::request::{Request, REPLY};
-use reference::raw::RawStore;
+use trials::raw::RawStore;
 
 extern "C" {
     fn store_check(

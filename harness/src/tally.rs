@@ -1,8 +1,8 @@
 //! Counts the answers of a check by the kind of damage, and prints them as a table.
 
-use reference::damage::Kind;
 use std::collections::BTreeMap;
 use std::fmt;
+use trials::damage::Kind;
 
 /// How often a check answered no and yes.
 pub type Answers = [u32; 2];

@@ -5,19 +5,20 @@ use harness::kernel;
 use harness::request::{answer, Request};
 use reference::call::{call_kind, Action, Answer, Call, Key, Name, Operation};
 use reference::claims::check_ledger;
-use reference::coverage::refusals;
-use reference::damage::{damage, Kind};
-use reference::encode::encode;
-use reference::generate::Generator;
-use reference::kernel::{Store, MAX_RIGHTS};
-use reference::layout::{BYTES, FIRST_CHILD, LINKS, MASTER, NEXT_CAP, P1, P2, WORDS};
+use reference::kernel::Store;
 use reference::ledger::Ledger;
-use reference::oracle::well_formed;
-use reference::profiles::PROFILES;
-use reference::random::Random;
-use reference::raw::{decode, RawStore};
-use reference::samples::{shaped, stores_of_runs, Shape};
+use reference::numbers::*;
 use std::collections::BTreeMap;
+use trials::coverage::refusals;
+use trials::damage::{damage, Kind};
+use trials::encode::encode;
+use trials::generate::Generator;
+use trials::layout::{BYTES, FIRST_CHILD, LINKS, MASTER, NEXT_CAP, P1, P2, WORDS};
+use trials::oracle::well_formed;
+use trials::profiles::PROFILES;
+use trials::random::Random;
+use trials::raw::{decode, RawStore};
+use trials::samples::{shaped, stores_of_runs, Shape};
 
 /// Calls of each half, of which there are two.
 const CALLS: u64 = 500_000;
@@ -39,8 +40,8 @@ fn moves_only_the_fee(code: u32, before: &RawStore, after: &RawStore) -> bool {
     let words = differences(&before.words, &after.words);
     before.links == after.links
         && match code {
-            1..=3 => bytes == 0 && words == 0,
-            4 => bytes == 1 && words == 0,
+            ILL_FORMED..=NOT_RUNNING => bytes == 0 && words == 0,
+            CANNOT_PAY => bytes == 1 && words == 0,
             _ => bytes == 0 && words <= 2,
         }
 }
@@ -51,7 +52,7 @@ fn differences<T: PartialEq>(before: &[T], after: &[T]) -> usize {
 
 /// The scratch after a call: all zero after a done delete_cap or rename_obj.
 fn scratch_after(number: u32, code: u32, scratch: &[u16]) -> Vec<u16> {
-    if code == 0 && [6, 7].contains(&number) {
+    if code == DONE && [6, 7].contains(&number) {
         vec![0; scratch.len()]
     } else {
         scratch.to_vec()
@@ -73,7 +74,10 @@ fn call_raw(raw: &mut RawStore, call: &Call, expected: &Answer, random: &mut Ran
     let (lent, worked) = (buffer.clone(), scratch.clone());
     let reply = kernel::call(raw, &request, &mut buffer, &mut scratch);
     assert!(buffer == buffer_after(&expected.bytes, &lent), "buffer: {call:?}");
-    assert!(scratch == scratch_after(request.numbers[0], expected.code, &worked), "scratch: {call:?}");
+    assert!(
+        scratch == scratch_after(request.numbers[0], expected.code, &worked),
+        "scratch: {call:?}"
+    );
     answer(reply, &buffer)
 }
 
@@ -85,7 +89,7 @@ impl Pair {
         let given = call_raw(&mut self.raw, call, &expected, random);
         assert_eq!(given, expected, "{call:?}");
         assert!(
-            given.code == 0 || moves_only_the_fee(given.code, &before, &self.raw),
+            given.code == DONE || moves_only_the_fee(given.code, &before, &self.raw),
             "changed by a refusal: {call:?}"
         );
         assert!(decode(&self.raw).as_ref() == Some(&self.store), "meaning: {call:?}");
@@ -103,7 +107,7 @@ fn runs(seed: u64, answers: &mut Answers) {
         let mut random = Random::new(seed);
         let [supply, p1, p2] = generator.first();
         let mut raw = junk(&mut random);
-        assert_eq!(kernel::fresh(supply, [p1, p2], &mut raw), 0);
+        assert_eq!(kernel::fresh(supply, [p1, p2], &mut raw), DONE);
         let mut pair = Pair { raw, store: Store::fresh(supply, p1, p2) };
         let mut ledger = Ledger::fresh(p1, p2);
         for at in 0..profile.calls {
@@ -111,10 +115,11 @@ fn runs(seed: u64, answers: &mut Answers) {
                 pair.raw = encode(&pair.store, &mut random);
             }
             let call = generator.next_call(&pair.store);
-            let done = pair.call(&call, &mut random, answers) == 0;
+            let done = pair.call(&call, &mut random, answers) == DONE;
             ledger.feed(&call, done);
             if at % CLAIMS == 0 || (done && call.operation.number() == 6) {
-                check_ledger(&pair.store, &ledger).unwrap_or_else(|wrong| panic!("{wrong}: {call:?}"));
+                check_ledger(&pair.store, &ledger)
+                    .unwrap_or_else(|wrong| panic!("{wrong}: {call:?}"));
             }
         }
         assert!(well_formed(&pair.raw));
@@ -141,8 +146,8 @@ fn random_calls(first: u64) {
         runs(seed, &mut answers);
     }
     for number in 0..=16 {
-        for code in refusals(number).iter().chain([0].iter().filter(|_| number > 0)) {
-            let count = answers.get(&(number, *code)).copied().unwrap_or(0);
+        for code in refusals(number).into_iter().chain((number > 0).then_some(DONE)) {
+            let count = answers.get(&(number, code)).copied().unwrap_or(0);
             println!("call {number} answer {code}: {count}");
             assert!(count > 0, "not met: call {number} answer {code}");
         }
@@ -196,7 +201,7 @@ fn calls_on_damaged_stores() {
             }
             let before = raw.clone();
             let call = generator.next_call(store);
-            let expected = Answer { code: 1, ..Answer::default() };
+            let expected = Answer { code: ILL_FORMED, ..Answer::default() };
             assert_eq!(call_raw(&mut raw, &call, &expected, &mut random), expected);
             assert!(raw == before, "changed: {call:?}");
             refused += 1;
@@ -209,7 +214,7 @@ fn calls_on_damaged_stores() {
 const BOSS: Name = Name { volume: 0, serial: 1 };
 
 fn by_boss(operation: Operation) -> Call {
-    Call { caller: BOSS, operation, buffer: 256, scratch: 512 }
+    Call { caller: BOSS, operation, buffer: MIN_BUFFER, scratch: MIN_SCRATCH }
 }
 
 /// 62 objects of 8 blocks and one of 16, then capabilities until none is free, then all is
@@ -219,27 +224,28 @@ fn filled_and_emptied() {
     let mut random = Random::new(13);
     let mut answers = Answers::new();
     let mut raw = junk(&mut random);
-    assert_eq!(kernel::fresh(4_000_000, [5, 9], &mut raw), 0);
+    assert_eq!(kernel::fresh(4_000_000, [5, 9], &mut raw), DONE);
     let mut pair = Pair { raw, store: Store::fresh(4_000_000, 5, 9) };
     for _ in 0..6 {
         let masters: Vec<Key> = (2..=64).map(|serial| key(serial, &mut random)).collect();
-        let mut code = |operation, random: &mut Random| pair.call(&by_boss(operation), random, &mut answers);
+        let mut code =
+            |operation, random: &mut Random| pair.call(&by_boss(operation), random, &mut answers);
         for (at, drawn) in masters.iter().enumerate() {
             let size = if at == 30 { 1_024 } else { 512 };
             let make = Operation::MakeObj { size, flag: 0, rights: MAX_RIGHTS, drawn: *drawn };
-            assert_eq!(code(make, &mut random), 0);
+            assert_eq!(code(make, &mut random), DONE);
         }
         let more = Operation::MakeObj { size: 0, flag: 0, rights: 1, drawn: key(70, &mut random) };
-        assert_eq!(code(more, &mut random), 13);
+        assert_eq!(code(more, &mut random), NO_SPACE);
         for at in 0..448 {
             let master = masters[at % masters.len()];
             let derive = derive(master, 1_000_000 + at as u32);
-            assert_eq!(code(derive, &mut random), 0);
+            assert_eq!(code(derive, &mut random), DONE);
         }
-        assert_eq!(code(derive(masters[0], 3_000_000), &mut random), 13);
+        assert_eq!(code(derive(masters[0], 3_000_000), &mut random), NO_SPACE);
         for at in (0..masters.len()).rev() {
             let delete = Operation::On(masters[(at * 5) % masters.len()], Action::DeleteCap);
-            assert_eq!(code(delete, &mut random), 0);
+            assert_eq!(code(delete, &mut random), DONE);
         }
         assert_eq!(pair.store.objects.len(), 1);
         assert!(well_formed(&pair.raw));
@@ -276,8 +282,13 @@ fn deleted_at_each_link() {
                 let name = Name { volume: 0, serial: 0 };
                 let (p1, p2) = links[at];
                 let delete = Operation::On(Key { name, p1, p2 }, Action::DeleteCap);
-                let call = Call { caller: name, operation: delete, buffer: 256, scratch: 512 };
-                assert_eq!(pair.call(&call, &mut random, &mut answers), 0);
+                let call = Call {
+                    caller: name,
+                    operation: delete,
+                    buffer: MIN_BUFFER,
+                    scratch: MIN_SCRATCH,
+                };
+                assert_eq!(pair.call(&call, &mut random, &mut answers), DONE);
             }
             assert_eq!(pair.store.capabilities.len(), 1);
             assert!(well_formed(&pair.raw));

@@ -2,14 +2,14 @@
 
 use harness::kernel;
 use harness::tally::Tally;
-use reference::damage::{damage, Kind};
-use reference::encode::encode;
 use reference::kernel::Store;
-use reference::layout::{BYTES, LINKS, WORDS};
-use reference::oracle::well_formed;
-use reference::random::Random;
-use reference::raw::RawStore;
-use reference::samples::{shaped, stores_of_runs, Shape};
+use trials::damage::{damage, Kind};
+use trials::encode::encode;
+use trials::layout::{BYTES, LINKS, WORDS};
+use trials::oracle::well_formed;
+use trials::random::Random;
+use trials::raw::RawStore;
+use trials::samples::{shaped, stores_of_runs, Shape};
 
 const STORES: u32 = 200_000;
 const VARIANTS: u32 = 15;
@@ -141,7 +141,7 @@ fn fresh_stores() {
         let mut raw = full_of_numbers(u32::MAX, &mut filler);
         assert_eq!(kernel::fresh(supply, [p1, p2], &mut raw), 0);
         assert!(compared(&raw, &[]));
-        assert_eq!(reference::raw::decode(&raw), Some(Store::fresh(supply, p1, p2)));
+        assert_eq!(trials::raw::decode(&raw), Some(Store::fresh(supply, p1, p2)));
     }
 }
 

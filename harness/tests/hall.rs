@@ -2,12 +2,12 @@
 //! of random scripts of all profiles, malformed ones too, and lines of every length.
 
 use harness::program::output;
-use reference::edges::{cases, check, script as script_of};
-use reference::generate::script;
 use reference::kernel::Store;
-use reference::profiles::PROFILES;
-use reference::random::Random;
 use reference::script::{answer_line, read_numbers, run_script, start};
+use trials::edges::{cases, check, script as script_of};
+use trials::generate::script;
+use trials::profiles::PROFILES;
+use trials::random::Random;
 
 const SCRIPTS: u64 = 300;
 const LINES: usize = 300_000;
@@ -22,7 +22,8 @@ fn compare(what: &str, input: &[u8]) {
     let written = output("hall", input.to_vec());
     let wanted = expected(input);
     if written != wanted {
-        let differs = written.split(|b| *b == 10).zip(wanted.split(|b| *b == 10)).find(|(a, b)| a != b);
+        let differs =
+            written.split(|b| *b == 10).zip(wanted.split(|b| *b == 10)).find(|(a, b)| a != b);
         let text = |line: &[u8]| String::from_utf8_lossy(line).into_owned();
         panic!("{what}: {:?}", differs.map(|(a, b)| (text(a), text(b))));
     }
@@ -146,7 +147,9 @@ fn sheets() {
     let lending = include_bytes!("../../docs/lending.script");
     let sheet = String::from_utf8(output("sheet", lending.to_vec())).expect("text");
     assert!(sheet.starts_with("line 6: delete_cap ended\n    2 7 11 13\n    2 7 21 22\n"));
-    assert!(sheet.ends_with("            45 46: no rights, window 80 to 90, moneyword 0, from 43\n"));
+    assert!(
+        sheet.ends_with("            45 46: no rights, window 80 to 90, moneyword 0, from 43\n")
+    );
     let example = include_bytes!("../../docs/example.script");
     let text = "line 6: delete_cap ended\n    2 7 11 13\n    2 7 21 22\n\
         object 0 1: process, size 0, cash 865\n\
@@ -190,7 +193,12 @@ fn facts(store: &Store) -> Vec<String> {
     let capabilities = store.capabilities.iter().map(|((_, p1), c)| {
         let from = c.parent.map_or("master".into(), |parent| format!("from {parent}"));
         let window = format!("window {} to {}", c.start, c.end);
-        format!("{p1} {}: {}, {window}, moneyword {}, {from}", c.p2, rights_by_name(c.rights), c.moneyword)
+        format!(
+            "{p1} {}: {}, {window}, moneyword {}, {from}",
+            c.p2,
+            rights_by_name(c.rights),
+            c.moneyword
+        )
     });
     let mut facts: Vec<String> = objects.chain(capabilities).collect();
     facts.sort();

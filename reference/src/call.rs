@@ -1,4 +1,6 @@
-//! The 16 calls of 01 as values: names, arguments, rights, fees, refusals and answers.
+//! The 16 calls of 01 as values: names, arguments, rights, fees and answers.
+
+use crate::numbers::{right, Refusal};
 
 /// An object's name: its volume and its serial.
 #[derive(Clone, Copy, Debug, Default, PartialEq, Eq, PartialOrd, Ord, Hash)]
@@ -60,7 +62,7 @@ pub enum Action {
     Revive { sum: u32 },
 }
 
-/// The number, name, fee and required right (0 where no capability is presented) of a call.
+/// The number, name, fee and required right (none where no capability is presented) of a call.
 pub struct CallKind {
     pub number: u32,
     pub name: &'static str,
@@ -74,22 +76,22 @@ const fn kind(number: u32, name: &'static str, fee: u32, right: u32) -> CallKind
 
 /// 01's calls, fees and rights, in call order 1 to 16.
 pub const CALLS: [CallKind; 16] = [
-    kind(1, "make_obj", 20, 0),
-    kind(2, "read", 1, 1),
-    kind(3, "write", 2, 2),
-    kind(4, "cap_info", 1, 4),
-    kind(5, "derive_cap", 5, 8),
-    kind(6, "delete_cap", 5, 16),
-    kind(7, "rename_obj", 10, 32),
-    kind(8, "withdraw", 2, 64),
-    kind(9, "deposit", 2, 128),
-    kind(10, "suspend", 1, 256),
-    kind(11, "resume", 1, 512),
-    kind(12, "apply_lock", 5, 1024),
-    kind(13, "send", 2, 2048),
-    kind(14, "receive", 1, 0),
-    kind(15, "wait", 0, 0),
-    kind(16, "revive", 5, 4096),
+    kind(1, "make_obj", 20, right::NONE),
+    kind(2, "read", 1, right::READ),
+    kind(3, "write", 2, right::WRITE),
+    kind(4, "cap_info", 1, right::CAP_INFO),
+    kind(5, "derive_cap", 5, right::DERIVE_CAP),
+    kind(6, "delete_cap", 5, right::DELETE_CAP),
+    kind(7, "rename_obj", 10, right::RENAME_OBJ),
+    kind(8, "withdraw", 2, right::WITHDRAW),
+    kind(9, "deposit", 2, right::DEPOSIT),
+    kind(10, "suspend", 1, right::SUSPEND),
+    kind(11, "resume", 1, right::RESUME),
+    kind(12, "apply_lock", 5, right::APPLY_LOCK),
+    kind(13, "send", 2, right::SEND),
+    kind(14, "receive", 1, right::NONE),
+    kind(15, "wait", 0, right::NONE),
+    kind(16, "revive", 5, right::REVIVE),
 ];
 
 /// A call of the 16 by its number; none for an unknown number.
@@ -131,39 +133,11 @@ impl Action {
     }
 }
 
-/// 01's refusals 2 to 16. Refusal 1 (the store is not well formed) has no case: a store over
-/// maps that began fresh is always well formed.
-#[derive(Clone, Copy, Debug, PartialEq, Eq, PartialOrd, Ord)]
-pub enum Refusal {
-    BadArgument = 2,
-    BadCaller = 3,
-    FeeNotPaid = 4,
-    NoSuchCapability = 5,
-    RightMissing = 6,
-    OutsideWindow = 7,
-    NotProcess = 8,
-    TooLittleMoney = 9,
-    MoneywordTooLarge = 10,
-    NotMaster = 11,
-    Taken = 12,
-    NoSpace = 13,
-    BoxFull = 14,
-    BoxEmpty = 15,
-    NotRevivable = 16,
-}
-
-impl Refusal {
-    /// 01's number for the refusal.
-    pub fn number(self) -> u32 {
-        self as u32
-    }
-}
-
 /// The answer to a call. Fields that the call does not use, and all fields but `code` of a
 /// refusal, are 0 or empty.
 #[derive(Clone, Debug, Default, PartialEq, Eq)]
 pub struct Answer {
-    /// 0 for done, else the refusal's number.
+    /// `DONE`, or the refusal's number.
     pub code: u32,
     /// The new capability of make_obj, derive_cap and rename_obj.
     pub capability: Key,

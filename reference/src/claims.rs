@@ -2,11 +2,9 @@
 //! in meaning. Each check gives what is wrong as text.
 
 use crate::call::{call_kind, Action, Answer, Call, Key, Operation};
-use crate::kernel::{
-    blocks_of, Capability, Object, Place, Store, MAX_BLOCKS, MAX_CAPABILITIES, MAX_MESSAGE,
-    MAX_MESSAGES, MAX_OBJECTS, MAX_RIGHTS, MAX_SERIAL, MAX_SIZE, TOP_BIT, VOLUMES,
-};
+use crate::kernel::{blocks_of, Capability, Object, Place, Store};
 use crate::ledger::Ledger;
+use crate::numbers::*;
 use std::collections::{BTreeMap, BTreeSet};
 
 type Checked<T = ()> = Result<T, String>;
@@ -38,7 +36,7 @@ impl CheckedRun {
         let before = self.store.clone();
         let ended = ended_by(&self.ledger, call);
         let answer = self.store.run(call);
-        let done = answer.code == 0;
+        let done = answer.code == DONE;
         self.ledger.feed(call, done);
         let kept = money_total(&self.store) == money_total(&before);
         ensure(kept, || "money total".into())?;
@@ -87,8 +85,8 @@ fn check_refusal(before: Store, after: &Store, call: &Call, answer: &Answer) -> 
     let fee = call_kind(call.operation.number()).map_or(0, |kind| kind.fee);
     if let Some(caller) = expected.objects.get_mut(&call.caller) {
         match answer.code {
-            2 | 3 => {}
-            4 => caller.terminated = true,
+            OUT_OF_RANGE | NOT_RUNNING => {}
+            CANNOT_PAY => caller.terminated = true,
             _ => {
                 caller.cash -= fee;
                 expected.house += fee;
@@ -210,7 +208,7 @@ fn masters(store: &Store) -> Checked<BTreeMap<Place, Place>> {
 pub fn well_formed(store: &Store) -> Checked {
     check_counts(store)?;
     for (name, object) in &store.objects {
-        let in_range = name.volume < VOLUMES && name.serial <= MAX_SERIAL;
+        let in_range = name.volume <= MAX_VOLUME && name.serial <= MAX_SERIAL;
         let sound = in_range && object_in_range(object);
         ensure(sound, || format!("object {name:?}"))?;
         let masters = store.tree(*name).filter(|(_, c)| c.parent.is_none());
@@ -235,9 +233,9 @@ pub fn well_formed(store: &Store) -> Checked {
 fn check_counts(store: &Store) -> Checked {
     let blocks: u32 = store.objects.values().map(|o| blocks_of(o.size())).sum();
     let within = store.objects.len() <= MAX_OBJECTS
-        && store.capabilities.len() <= MAX_CAPABILITIES
+        && store.capabilities.len() <= MAX_CAPS
         && blocks <= MAX_BLOCKS
-        && money_total(store) <= u64::from(u32::MAX);
+        && money_total(store) <= u64::from(MAX_WORD);
     ensure(within, || "counts or money total".into())
 }
 
@@ -249,7 +247,7 @@ fn object_in_range(object: &Object) -> bool {
         && marks == (false, false, false)
         && messages.is_empty();
     object.size() <= MAX_SIZE
-        && object.lockword[0] < TOP_BIT
+        && object.lockword[0] < TOP
         && messages.len() <= MAX_MESSAGES
         && messages.iter().all(|m| m.bytes.len() <= MAX_MESSAGE)
         && (object.process || blank)

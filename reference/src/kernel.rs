@@ -1,24 +1,8 @@
 //! The kernel of 01 over ordinary maps: one function per call, refusals in 01's order.
 
-use crate::call::{call_kind, Action, Answer, Call, Key, Name, Operation, Refusal};
+use crate::call::{call_kind, Action, Answer, Call, Key, Name, Operation};
+use crate::numbers::*;
 use std::collections::{BTreeMap, BTreeSet, VecDeque};
-
-pub const VOLUMES: u32 = 4;
-pub const MAX_SERIAL: u32 = 65_535;
-pub const MAX_OBJECTS: usize = 64;
-pub const MAX_CAPABILITIES: usize = 512;
-pub const MAX_SIZE: u32 = 8_192;
-pub const BLOCK_SIZE: u32 = 64;
-pub const MAX_BLOCKS: u32 = 512;
-pub const MAX_RIGHTS: u32 = 8_191;
-pub const MAX_TRANSFER: u32 = 256;
-pub const MIN_BUFFER: usize = 256;
-pub const MIN_SCRATCH: usize = 512;
-pub const MAX_MESSAGE: usize = 16;
-pub const MAX_MESSAGES: usize = 4;
-/// Passwords whose p1 is at least this are XORed with the caller's lockword; a lockword's
-/// first word is below it.
-pub const TOP_BIT: u32 = 2_147_483_648;
 
 /// A message: 0 to 16 bytes and a sum.
 #[derive(Clone, Debug, Default, PartialEq, Eq)]
@@ -112,7 +96,7 @@ pub fn blocks_of(size: u32) -> u32 {
 
 /// The password that is looked up: unlocked when its p1 has its top bit set.
 pub fn unlocked(p1: u32, p2: u32, lockword: [u32; 2]) -> (u32, u32) {
-    if p1 >= TOP_BIT {
+    if p1 >= TOP {
         (p1 ^ lockword[0], p2 ^ lockword[1])
     } else {
         (p1, p2)
@@ -213,11 +197,11 @@ fn check_arguments(call: &Call) -> Result<(), Refusal> {
         Operation::On(key, action) => in_range(key.name) && action_in_range(call, action),
         Operation::Unknown(_) => false,
     };
-    refuse_if(!(ranges && in_range(call.caller)), Refusal::BadArgument)
+    refuse_if(!(ranges && in_range(call.caller)), Refusal::OutOfRange)
 }
 
 fn in_range(name: Name) -> bool {
-    name.volume < VOLUMES && name.serial <= MAX_SERIAL
+    name.volume <= MAX_VOLUME && name.serial <= MAX_SERIAL
 }
 
 fn action_in_range(call: &Call, action: &Action) -> bool {
@@ -228,7 +212,7 @@ fn action_in_range(call: &Call, action: &Action) -> bool {
         }
         Action::DeriveCap { mask, start, end, .. } => *mask <= MAX_RIGHTS && start <= end,
         Action::DeleteCap | Action::RenameObj { .. } => call.scratch >= MIN_SCRATCH,
-        Action::ApplyLock { words } => words[0] < TOP_BIT,
+        Action::ApplyLock { words } => words[0] < TOP,
         Action::Send { message, .. } => message.len() <= MAX_MESSAGE,
         Action::CapInfo | Action::Withdraw { .. } | Action::Deposit { .. } => true,
         Action::Suspend | Action::Resume | Action::Revive { .. } => true,
@@ -257,14 +241,14 @@ impl Store {
             Operation::Receive => self.receive(call.caller),
             Operation::Wait => self.wait(call.caller),
             Operation::On(key, action) => self.act(call.caller, *key, action),
-            Operation::Unknown(_) => Err(Refusal::BadArgument),
+            Operation::Unknown(_) => Err(Refusal::OutOfRange),
         }
     }
 
     /// Refusal 3.
     fn check_caller(&self, caller: Name) -> Result<(), Refusal> {
         let runs = self.objects.get(&caller).is_some_and(Object::runs);
-        refuse_if(!runs, Refusal::BadCaller)
+        refuse_if(!runs, Refusal::NotRunning)
     }
 
     /// Refusal 4, or the fee goes to the house.
@@ -273,7 +257,7 @@ impl Store {
         let caller = self.object(call.caller)?;
         if caller.cash < fee {
             caller.terminated = true;
-            return Err(Refusal::FeeNotPaid);
+            return Err(Refusal::CannotPay);
         }
         caller.cash -= fee;
         self.house += fee;
@@ -282,7 +266,7 @@ impl Store {
 
     /// Refusals 5 and 6 of a call that presents a capability, then the call itself.
     fn act(&mut self, caller: Name, key: Key, action: &Action) -> Outcome {
-        let at = self.find(caller, key).ok_or(Refusal::NoSuchCapability)?;
+        let at = self.find(caller, key).ok_or(Refusal::NotFound)?;
         let right = call_kind(action.number()).map_or(0, |kind| kind.right);
         let rights = self.capability(at)?.rights;
         refuse_if(rights & right == 0, Refusal::RightMissing)?;
@@ -308,7 +292,7 @@ impl Store {
     fn make_obj(&mut self, drawn: Key, size: u32, process: bool, rights: u32) -> Outcome {
         refuse_if(self.objects.contains_key(&drawn.name), Refusal::Taken)?;
         let full = self.objects.len() >= MAX_OBJECTS
-            || self.capabilities.len() >= MAX_CAPABILITIES
+            || self.capabilities.len() >= MAX_CAPS
             || self.used_blocks() + blocks_of(size) > MAX_BLOCKS;
         refuse_if(full, Refusal::NoSpace)?;
         let object = Object {
@@ -325,7 +309,7 @@ impl Store {
     fn read(&self, at: Place, start: u32, end: u32) -> Outcome {
         let window = self.capability(at)?;
         refuse_if(!window.sees(start, end), Refusal::OutsideWindow)?;
-        let object = self.objects.get(&at.0).ok_or(Refusal::NoSuchCapability)?;
+        let object = self.objects.get(&at.0).ok_or(Refusal::NotFound)?;
         Ok(Answer {
             bytes: object.bytes[start as usize..end as usize].to_vec(),
             ..Answer::default()
@@ -357,7 +341,7 @@ impl Store {
     ) -> Outcome {
         let name = at.0;
         refuse_if(self.capabilities.contains_key(&(name, p1)), Refusal::Taken)?;
-        let full = self.capabilities.len() >= MAX_CAPABILITIES;
+        let full = self.capabilities.len() >= MAX_CAPS;
         refuse_if(full, Refusal::NoSpace)?;
         let parent = *self.capability(at)?;
         let child = Capability {
@@ -378,7 +362,7 @@ impl Store {
         self.capabilities.retain(|place, _| !ended.contains(place));
         if found.parent.is_none() {
             let object = self.objects.remove(&at.0);
-            let object = object.ok_or(Refusal::NoSuchCapability)?;
+            let object = object.ok_or(Refusal::NotFound)?;
             let sums: u32 = object.messages.iter().map(|m| m.sum).sum();
             self.house += found.moneyword + object.cash + sums;
         }
@@ -399,7 +383,7 @@ impl Store {
     fn withdraw(&mut self, caller: Name, at: Place, sum: u32) -> Outcome {
         let climb = self.climb(at);
         let short = climb.iter().any(|place| self.moneyword(*place) < sum);
-        refuse_if(short, Refusal::TooLittleMoney)?;
+        refuse_if(short, Refusal::TooLittle)?;
         for place in climb {
             self.capability_mut(place)?.moneyword -= sum;
         }
@@ -412,7 +396,7 @@ impl Store {
         let climb = self.climb(at);
         let grown = |place: &Place| self.moneyword(*place).checked_add(sum);
         let passes = climb.iter().any(|place| grown(place).is_none());
-        refuse_if(passes, Refusal::MoneywordTooLarge)?;
+        refuse_if(passes, Refusal::Overflows)?;
         for place in climb {
             self.capability_mut(place)?.moneyword += sum;
         }
@@ -474,15 +458,15 @@ fn new_capability(capability: Key) -> Answer {
 /// Look-ups that succeed on every well-formed store; they refuse instead of panicking.
 impl Store {
     fn object(&mut self, name: Name) -> Result<&mut Object, Refusal> {
-        self.objects.get_mut(&name).ok_or(Refusal::BadCaller)
+        self.objects.get_mut(&name).ok_or(Refusal::NotRunning)
     }
 
     fn capability(&self, at: Place) -> Result<&Capability, Refusal> {
-        self.capabilities.get(&at).ok_or(Refusal::NoSuchCapability)
+        self.capabilities.get(&at).ok_or(Refusal::NotFound)
     }
 
     fn capability_mut(&mut self, at: Place) -> Result<&mut Capability, Refusal> {
-        self.capabilities.get_mut(&at).ok_or(Refusal::NoSuchCapability)
+        self.capabilities.get_mut(&at).ok_or(Refusal::NotFound)
     }
 
     /// Refusal 8: the capability's object, which must be a process.
@@ -495,6 +479,6 @@ impl Store {
     /// Refusal 9 of deposit, send and revive.
     fn check_cash(&mut self, caller: Name, sum: u32) -> Result<(), Refusal> {
         let cash = self.object(caller)?.cash;
-        refuse_if(cash < sum, Refusal::TooLittleMoney)
+        refuse_if(cash < sum, Refusal::TooLittle)
     }
 }

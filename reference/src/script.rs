@@ -1,18 +1,16 @@
 //! 01's script and its output: lines of numbers in, one line of numbers for each answer out.
 
-use crate::call::{Action, Answer, Call, Key, Name, Operation, Refusal};
-use crate::kernel::{Store, Totals, MIN_BUFFER, MIN_SCRATCH};
+use crate::call::{Action, Answer, Call, Key, Name, Operation};
+use crate::kernel::{Store, Totals};
+use crate::numbers::{DONE, MAX_LINE, MIN_BUFFER, MIN_SCRATCH, OUT_OF_RANGE};
 use std::io::{self, BufRead, Write};
-
-/// The longest line, its end not counted.
-pub const MAX_LINE: usize = 2_048;
 
 /// Runs a script from `input` and writes its output to `output`.
 pub fn run_script(input: &mut impl BufRead, output: &mut impl Write) -> io::Result<()> {
     let mut line = Vec::new();
     let first = read_line(input, &mut line)?;
     let Some(mut store) = first.and_then(|()| read_numbers(&line)).and_then(start) else {
-        write_line(output, "0", &[Refusal::BadArgument.number()])?;
+        write_line(output, "0", &[OUT_OF_RANGE])?;
         return output.flush();
     };
     let mut number: u64 = 0;
@@ -80,7 +78,7 @@ pub fn answer_line(store: &mut Store, numbers: Option<&[u32]>) -> Vec<u32> {
             let answer = store.run(&call);
             answer_numbers(&call.operation, &answer)
         }
-        None => vec![Refusal::BadArgument.number()],
+        None => vec![OUT_OF_RANGE],
     }
 }
 
@@ -88,7 +86,7 @@ pub fn answer_line(store: &mut Store, numbers: Option<&[u32]>) -> Vec<u32> {
 fn answer_numbers(operation: &Operation, answer: &Answer) -> Vec<u32> {
     let mut numbers = vec![answer.code];
     let bytes = answer.bytes.iter().map(|byte| u32::from(*byte));
-    if answer.code != 0 {
+    if answer.code != DONE {
         return numbers;
     }
     match operation {

@@ -4,6 +4,7 @@ use reference::call::Name;
 use reference::claims::{check_ledger, well_formed, CheckedRun};
 use reference::kernel::{Capability, Message, Place, Store};
 use reference::ledger::Ledger;
+use reference::numbers::{DONE, MAX_MESSAGE, MAX_RIGHTS, TOP};
 use reference::script::{read_call, read_numbers};
 
 const NAME: Name = Name { volume: 2, serial: 7 };
@@ -29,7 +30,7 @@ fn run() -> CheckedRun {
     for line in LINES {
         let numbers = read_numbers(line.as_bytes()).expect(line);
         let answer = run.run(&read_call(&numbers).expect(line)).expect(line);
-        assert_eq!(answer.code, 0, "{line}");
+        assert_eq!(answer.code, DONE, "{line}");
     }
     run
 }
@@ -66,19 +67,19 @@ const SPOILT_STORES: &[Spoil] = &[
     ("an absent parent", |s| capability(s, CHILD).parent = Some(99)),
     ("its own parent", |s| capability(s, CHILD).parent = Some(21)),
     ("wider rights", |s| capability(s, GRANDCHILD).rights |= 16),
-    ("rights out of range", |s| capability(s, MASTER).rights = 8192),
+    ("rights out of range", |s| capability(s, MASTER).rights = MAX_RIGHTS + 1),
     ("an earlier start", |s| capability(s, GRANDCHILD).start = 31),
     ("a later end", |s| capability(s, GRANDCHILD).end = 97),
     ("a crossed window", |s| capability(s, GRANDCHILD).start = 97),
     ("a master's window", |s| capability(s, MASTER).end = 127),
     ("a lockword", |s| {
-        s.objects.get_mut(&NAME).unwrap().lockword[0] = 1 << 31;
+        s.objects.get_mut(&NAME).unwrap().lockword[0] = TOP;
     }),
     ("a data object's cash", |s| {
         s.objects.get_mut(&NAME).unwrap().process = false;
     }),
     ("a long message", |s| {
-        s.objects.get_mut(&NAME).unwrap().messages[0].bytes = vec![0; 17];
+        s.objects.get_mut(&NAME).unwrap().messages[0].bytes = vec![0; MAX_MESSAGE + 1];
     }),
     ("a full box", |s| {
         let messages = &mut s.objects.get_mut(&NAME).unwrap().messages;

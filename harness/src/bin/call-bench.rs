@@ -4,11 +4,12 @@
 use harness::kernel::FormedStore;
 use harness::request::Request;
 use reference::call::{Action, Call, Key, Name, Operation};
-use reference::encode::encode;
-use reference::kernel::{Object, Store, MAX_RIGHTS};
-use reference::random::Random;
-use reference::samples::{shaped, Shape};
+use reference::kernel::{Object, Store};
+use reference::numbers::{DONE, MAX_RIGHTS, MIN_BUFFER, MIN_SCRATCH};
 use std::time::Instant;
+use trials::encode::encode;
+use trials::random::Random;
+use trials::samples::{shaped, Shape};
 
 const ROUNDS: usize = 301;
 
@@ -60,14 +61,14 @@ fn on(key: Key, action: Action) -> Operation {
 }
 
 fn call(caller: Name, operation: Operation) -> Call {
-    Call { caller, operation, buffer: 256, scratch: 512 }
+    Call { caller, operation, buffer: MIN_BUFFER, scratch: MIN_SCRATCH }
 }
 
 fn case(name: String, store: &Store, calls: Vec<Call>) -> Case {
     let mut copy = store.clone();
     for call in &calls {
         let answer = copy.run(call);
-        assert_eq!(answer.code, 0, "{name}: {call:?}");
+        assert_eq!(answer.code, DONE, "{name}: {call:?}");
     }
     let raw = encode(store, &mut Random::new(3));
     let formed = FormedStore::new(raw).unwrap_or_else(|| panic!("not well formed: {name}"));
@@ -75,10 +76,13 @@ fn case(name: String, store: &Store, calls: Vec<Call>) -> Case {
     Case { name, store: store.clone(), formed, calls, requests, times: Default::default() }
 }
 
+/// A process's operation, from its place among the processes, its name and its capabilities.
+type Make<'a> = &'a dyn Fn(usize, Name, &[Key]) -> Option<Operation>;
+
 /// One list of calls for each kind, on the processes of a store.
 fn kinds(title: &str, store: &Store, cases: &mut Vec<Case>) {
     let names: Vec<Name> = store.objects.keys().copied().collect();
-    let each = |make: &dyn Fn(usize, Name, &[Key]) -> Option<Operation>| -> Vec<Call> {
+    let each = |make: Make| -> Vec<Call> {
         let made = names.iter().enumerate().filter_map(|(at, name)| {
             make(at, *name, &keys(store, *name)).map(|operation| call(*name, operation))
         });
@@ -91,22 +95,32 @@ fn kinds(title: &str, store: &Store, cases: &mut Vec<Case>) {
     let data = vec![9; 256];
     add(
         "write 256",
-        each(&|_, _, k| Some(on(last(k), Action::Write { start: 100, end: 356, data: data.clone() }))),
+        each(&|_, _, k| {
+            Some(on(last(k), Action::Write { start: 100, end: 356, data: data.clone() }))
+        }),
     );
     add("cap_info", each(&|_, _, k| Some(on(last(k), Action::CapInfo))));
     add("withdraw", each(&|_, _, k| Some(on(last(k), Action::Withdraw { sum: 5 }))));
     add("deposit", each(&|_, _, k| Some(on(last(k), Action::Deposit { sum: 5 }))));
     let other = |at: usize| keys(store, names[(at + 1) % names.len()]);
     add("resume", each(&|at, _, _| Some(on(last(&other(at)), Action::Resume))));
-    add("apply_lock", each(&|at, _, _| Some(on(last(&other(at)), Action::ApplyLock { words: [1, 2] }))));
+    add(
+        "apply_lock",
+        each(&|at, _, _| Some(on(last(&other(at)), Action::ApplyLock { words: [1, 2] }))),
+    );
     let message = vec![7; 16];
     add(
         "send 16",
-        each(&|at, _, _| Some(on(last(&other(at)), Action::Send { sum: 1, message: message.clone() }))),
+        each(&|at, _, _| {
+            Some(on(last(&other(at)), Action::Send { sum: 1, message: message.clone() }))
+        }),
     );
     add("wait", each(&|_, _, _| Some(Operation::Wait)));
     add("suspend", each(&|_, _, k| Some(on(last(k), Action::Suspend))));
-    add("delete a leaf", each(&|_, _, k| (k.len() > 1).then(|| on(leaf(store, k), Action::DeleteCap))));
+    add(
+        "delete a leaf",
+        each(&|_, _, k| (k.len() > 1).then(|| on(leaf(store, k), Action::DeleteCap))),
+    );
     add(
         "rename",
         each(&|at, _, k| {

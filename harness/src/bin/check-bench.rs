@@ -2,14 +2,14 @@
 //! several shapes and their halves. Prints medians and ratios.
 
 use harness::kernel;
-use reference::encode::encode;
 use reference::kernel::Store;
-use reference::plain;
-use reference::random::Random;
-use reference::raw::RawStore;
-use reference::samples::{shaped, Shape};
 use std::hint::black_box;
 use std::time::Instant;
+use trials::encode::encode;
+use trials::plain;
+use trials::random::Random;
+use trials::raw::RawStore;
+use trials::samples::{shaped, Shape};
 
 const ROUNDS: usize = 401;
 

@@ -3,12 +3,12 @@
 //! times as long.
 
 use harness::program;
-use reference::generate::script;
-use reference::profiles::profile;
 use std::fs::{self, File};
-use std::path::{Path, PathBuf};
+use std::path::Path;
 use std::process::{Command, Stdio};
 use std::time::Instant;
+use trials::generate::script;
+use trials::profiles::profile;
 
 const ROUNDS: usize = 7;
 const LINES: u32 = 100_000;
@@ -65,8 +65,8 @@ fn median(mut times: Vec<f64>) -> f64 {
 
 fn main() {
     let hall = program::path("hall");
-    let reference = PathBuf::from(env!("CARGO_MANIFEST_DIR"))
-        .join("../reference/target/release/hall-reference");
+    // built beside this program
+    let reference = std::env::current_exe().expect("this program").with_file_name("hall-reference");
     let file = std::env::temp_dir().join(format!("hall-bench-{}", std::process::id()));
     println!("medians of {ROUNDS} runs, lines a second");
     println!("{:16}{:>12}{:>12}{:>8}", "script", "hall", "reference", "ratio");

@@ -1,9 +1,9 @@
 //! `make-script profile seed lines`: prints a random script of that profile.
 
-use reference::generate::script;
-use reference::profiles::{profile, PROFILES};
 use std::io::Write;
 use std::process::ExitCode;
+use trials::generate::script;
+use trials::profiles::{profile, PROFILES};
 
 fn main() -> ExitCode {
     let arguments: Vec<String> = std::env::args().skip(1).collect();

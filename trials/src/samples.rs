@@ -1,12 +1,13 @@
 //! Stores to try the checkers on: those met in random runs of all profiles, and full ones of
 //! given shapes.
 
-use crate::call::Name;
 use crate::encode::shuffled;
 use crate::generate::Generator;
-use crate::kernel::{Capability, Object, Store, MAX_CAPABILITIES, MAX_RIGHTS};
 use crate::profiles::{Profile, PROFILES};
 use crate::random::Random;
+use reference::call::Name;
+use reference::kernel::{Capability, Object, Store};
+use reference::numbers::{MAX_CAPS, MAX_RIGHTS};
 use std::collections::BTreeSet;
 
 /// Hands out every so manieth store of a random run of a profile, the fresh one included.
@@ -53,7 +54,7 @@ impl Shape {
 
 /// A store of so many processes, each with so many bytes and a tree of so many capabilities.
 pub fn shaped(objects: u32, size: usize, tree: u32, shape: Shape, random: &mut Random) -> Store {
-    assert!(objects * tree <= MAX_CAPABILITIES as u32);
+    assert!(objects * tree <= MAX_CAPS as u32);
     let mut store = Store::default();
     for serial in 0..objects {
         let name = Name { volume: serial % 4, serial };

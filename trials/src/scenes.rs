@@ -1,9 +1,9 @@
 //! Scenes that random runs must reach beside the refusals: locked callers, processes that act
 //! on themselves, and names used again.
 
-use crate::call::{call_kind, Call, Operation};
-use crate::claims::CheckedRun;
-use crate::kernel::TOP_BIT;
+use reference::call::{call_kind, Call, Operation};
+use reference::claims::CheckedRun;
+use reference::numbers::{DONE, NOT_FOUND, NOT_REVIVABLE, TOP};
 
 /// The scenes that a call, answered with this code, makes on the run before it.
 pub fn scenes(before: &CheckedRun, call: &Call, code: u32) -> Vec<String> {
@@ -12,18 +12,18 @@ pub fn scenes(before: &CheckedRun, call: &Call, code: u32) -> Vec<String> {
         Operation::On(key, action) => {
             let caller = before.store.objects.get(&call.caller);
             let locked = caller.is_some_and(|c| c.runs() && c.lockword != [0, 0]);
-            let top_bit = if key.p1 >= TOP_BIT { "top bit set" } else { "top bit clear" };
+            let top_bit = if key.p1 >= TOP { "top bit set" } else { "top bit clear" };
             match code {
-                0 if locked => met.push(format!("locked caller, {top_bit}, done")),
-                5 if locked => met.push(format!("locked caller, {top_bit}, answers 5")),
+                DONE if locked => met.push(format!("locked caller, {top_bit}, done")),
+                NOT_FOUND if locked => met.push(format!("locked caller, {top_bit}, answers 5")),
                 _ => {}
             }
-            if key.name == call.caller && matches!(code, 0 | 16) {
+            if key.name == call.caller && matches!(code, DONE | NOT_REVIVABLE) {
                 let name = call_kind(action.number()).map_or("unknown", |kind| kind.name);
                 met.push(format!("{name} on itself answers {code}"));
             }
         }
-        Operation::MakeObj { drawn, .. } if code == 0 => {
+        Operation::MakeObj { drawn, .. } if code == DONE => {
             let lines = &before.ledger.lines;
             if lines.iter().any(|line| line.key.name == drawn.name) {
                 met.push("name used again".into());

@@ -2,8 +2,8 @@
 //! trees by recursion, marks and hash tables in arrays of fixed size. Nothing is allocated.
 //! `oracle` is the same question in readable form; tests hold the two together.
 
-use crate::kernel::{MAX_MESSAGE, MAX_MESSAGES, MAX_RIGHTS, MAX_SIZE, TOP_BIT, VOLUMES};
 use crate::layout::*;
+use reference::numbers::*;
 
 /// Whether the slices are a well-formed store; p1 are looked up in a hash table.
 pub fn check(bytes: &[u8], links: &[u16], words: &[u32]) -> bool {
@@ -147,7 +147,7 @@ impl<const PAIRS: bool> Pass<'_, PAIRS> {
         let (volume, serial) = (self.byte(VOLUME, object), self.link(SERIAL, object));
         let size = self.link(SIZE, object);
         let master = self.link(MASTER, object);
-        volume < VOLUMES
+        volume <= MAX_VOLUME
             && self.names.insert(u64::from(volume) << 16 | serial as u64)
             && size <= MAX_SIZE as usize
             && self.chain_of_blocks(object, size)
@@ -165,7 +165,7 @@ impl<const PAIRS: bool> Pass<'_, PAIRS> {
         let marks = [SUSPENDED, WAITING, TERMINATED].map(|field| self.byte(field, object));
         if marks.iter().any(|mark| *mark > 1)
             || count > MAX_MESSAGES
-            || self.word(LOCK1, object) >= TOP_BIT
+            || self.word(LOCK1, object) >= TOP
         {
             return false;
         }

@@ -1,7 +1,7 @@
 //! 01's edges, and each call's fee and right, on the reference.
 
-use reference::edges::{answers, cases, check, script, OBJECT, PROCESS};
 use reference::script::run_script;
+use trials::edges::{answers, cases, check, script, OBJECT, PROCESS};
 
 fn output(script: &str) -> String {
     let mut output = Vec::new();

@@ -1,10 +1,10 @@
 //! Crafted damages to links: trees, free records and blocks.
 
 use super::records::*;
-use crate::kernel::MAX_SIZE;
 use crate::layout::*;
 use crate::random::Random;
 use crate::raw::RawStore;
+use reference::numbers::MAX_SIZE;
 
 pub fn new_leaves(raw: &mut RawStore, random: &mut Random) -> Option<Vec<usize>> {
     let parent = some_master(raw, random)?;

@@ -2,9 +2,10 @@
 //! clause by clause. Chains are collected into lists and sets are compared; nothing is marked
 //! and nothing recurs. Written to be read, not to be fast.
 
-use crate::kernel::{blocks_of, MAX_MESSAGE, MAX_MESSAGES, MAX_RIGHTS, MAX_SIZE, TOP_BIT, VOLUMES};
 use crate::layout::*;
 use crate::raw::{slots, RawStore};
+use reference::kernel::blocks_of;
+use reference::numbers::*;
 use std::collections::HashSet;
 
 /// Whether the slices are a well-formed store.
@@ -126,7 +127,7 @@ fn messages(raw: &RawStore, object: usize) -> impl Iterator<Item = usize> {
 fn object_holds(raw: &RawStore, object: usize) -> bool {
     let size = u32::from(raw.get(SIZE, object));
     let blocks = raw.chain(raw.link(FIRST_BLOCK, object), NEXT_BLOCK);
-    u32::from(raw.get(VOLUME, object)) < VOLUMES
+    u32::from(raw.get(VOLUME, object)) <= MAX_VOLUME
         && raw.get(FLAG, object) <= 1
         && size <= MAX_SIZE
         && blocks.is_some_and(|blocks| blocks.len() == blocks_of(size) as usize)
@@ -138,7 +139,7 @@ fn process_holds(raw: &RawStore, object: usize) -> bool {
     [SUSPENDED, WAITING, TERMINATED].iter().all(|mark| raw.get(*mark, object) <= 1)
         && usize::from(raw.get(COUNT, object)) <= MAX_MESSAGES
         && messages(raw, object).all(|slot| usize::from(raw.get(LENGTH, slot)) <= MAX_MESSAGE)
-        && raw.get(LOCK1, object) < TOP_BIT
+        && raw.get(LOCK1, object) < TOP
 }
 
 /// "every object has one tree with one sound master, whose window is 0 to the size"

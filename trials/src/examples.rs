@@ -1,8 +1,8 @@
 //! Short named scripts that together touch every call and every refusal from 2 to 16, and
 //! their printing, with the reference's answers, as definitions of the proof language.
 
-use crate::kernel::Store;
-use crate::script;
+use reference::kernel::Store;
+use reference::script;
 
 /// A named script: what it touches, and its text.
 pub struct Example {

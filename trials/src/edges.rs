@@ -8,7 +8,8 @@ const WINDOW: &str = "1 0 1 2 512 0 8191 7 11 13\n5 0 1 2 7 11 13 8191 64 128 21
 
 /// The case's name, line one, setup lines, and asked lines with their answers; an asked line
 /// `T` stands for the last line of the output.
-pub type Case = (&'static str, &'static str, fn() -> String, &'static [(&'static str, &'static str)]);
+pub type Case =
+    (&'static str, &'static str, fn() -> String, &'static [(&'static str, &'static str)]);
 
 const PROVED: &[Case] = &[
     (

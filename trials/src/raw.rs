@@ -1,8 +1,9 @@
 //! A store as three slices, laid out by docs/LAYOUT.md, and what it means.
 
-use crate::call::Name;
-use crate::kernel::{Capability, Message, Object, Store, BLOCK_SIZE};
 use crate::layout::*;
+use reference::call::Name;
+use reference::kernel::{Capability, Message, Object, Store};
+use reference::numbers::BLOCK_SIZE;
 
 /// A store's three slices, of any length and content.
 #[derive(Clone, Debug, Default, PartialEq, Eq)]

@@ -2,11 +2,11 @@
 //! which slots, the order in chains of children, objects and free records, and what stands in
 //! the cells that may hold anything.
 
-use crate::call::Name;
-use crate::kernel::{Object, Place, Store};
 use crate::layout::*;
 use crate::random::Random;
 use crate::raw::{slots, Cell, RawStore};
+use reference::call::Name;
+use reference::kernel::{Object, Place, Store};
 use std::collections::BTreeMap;
 
 /// What the cells that may hold anything are filled with.

@@ -2,10 +2,10 @@
 
 use super::records::*;
 use crate::encode::shuffled;
-use crate::kernel::{MAX_RIGHTS, TOP_BIT};
 use crate::layout::*;
 use crate::random::Random;
 use crate::raw::{decode, slots, RawStore};
+use reference::numbers::{MAX_MESSAGE, MAX_RIGHTS, TOP};
 
 pub fn slice_length(raw: &mut RawStore, random: &mut Random) -> Option<()> {
     match random.below(6) {
@@ -37,7 +37,7 @@ pub fn duplicate_p1(raw: &mut RawStore, random: &mut Random) -> Option<()> {
 
 pub fn lock_top_bit(raw: &mut RawStore, random: &mut Random) -> Option<()> {
     let at = some_process(raw, random)?;
-    raw.set(LOCK1, at, raw.get(LOCK1, at) | TOP_BIT);
+    raw.set(LOCK1, at, raw.get(LOCK1, at) | TOP);
     Some(())
 }
 
@@ -88,7 +88,7 @@ pub fn message_length_17(raw: &mut RawStore, random: &mut Random) -> Option<()> 
     let count = |at| u32::from(raw.get(COUNT, at));
     let at = object(raw, random, |at| raw.is_process(at) && count(at) > 0)?;
     let place = random.below(count(at)) as usize;
-    raw.set(LENGTH, message_slot(at, place), 17);
+    raw.set(LENGTH, message_slot(at, place), MAX_MESSAGE as u8 + 1);
     Some(())
 }
 

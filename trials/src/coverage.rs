@@ -1,36 +1,42 @@
 //! Coverage of random checked runs: every answer of every call, and for each two refusals of a
 //! call's list the states where both hold, only the earlier, and only the later.
 
-use crate::call::{call_kind, Action, Call, Operation, CALLS};
-use crate::claims::CheckedRun;
 use crate::conditions::{holding, Condition};
 use crate::generate::Generator;
-use crate::kernel::{Object, Store};
 use crate::profiles::{Profile, PROFILES};
 use crate::random::Random;
 use crate::scenes::{scenes, SCENES};
+use reference::call::{call_kind, Action, Call, Operation, CALLS};
+use reference::claims::CheckedRun;
+use reference::kernel::{Object, Store};
+use reference::numbers::*;
 use std::collections::BTreeMap;
 use std::fmt::Write;
 
 /// The refusals of a call that can be met, in 01's order. Left out everywhere: 1, since a store
 /// over maps is always well formed; and 4 for wait, whose fee of 0 can always be paid. An
 /// unknown number stands under 0 and is always 2.
-pub fn refusals(call: u32) -> &'static [u32] {
-    match call {
-        0 => &[2],
-        1 => &[2, 3, 4, 12, 13],
-        2 | 3 => &[2, 3, 4, 5, 6, 7],
-        5 => &[2, 3, 4, 5, 6, 12, 13],
-        7 => &[2, 3, 4, 5, 6, 11, 12],
-        8 => &[2, 3, 4, 5, 6, 9],
-        9 => &[2, 3, 4, 5, 6, 9, 10],
-        10..=12 => &[2, 3, 4, 5, 6, 8],
-        13 => &[2, 3, 4, 5, 6, 8, 9, 14],
-        14 => &[2, 3, 4, 15],
-        15 => &[2, 3],
-        16 => &[2, 3, 4, 5, 6, 8, 16, 9],
-        _ => &[2, 3, 4, 5, 6],
-    }
+pub fn refusals(call: u32) -> Vec<u32> {
+    let own: &[u32] = match call {
+        1 => &[TAKEN, NO_SPACE],
+        2 | 3 => &[OUTSIDE_WINDOW],
+        5 => &[TAKEN, NO_SPACE],
+        7 => &[NOT_MASTER, TAKEN],
+        8 => &[TOO_LITTLE],
+        9 => &[TOO_LITTLE, OVERFLOWS],
+        10..=12 => &[NOT_PROCESS],
+        13 => &[NOT_PROCESS, TOO_LITTLE, BOX_FULL],
+        14 => &[BOX_EMPTY],
+        16 => &[NOT_PROCESS, NOT_REVIVABLE, TOO_LITTLE],
+        _ => &[],
+    };
+    let before: &[u32] = match call {
+        0 => &[OUT_OF_RANGE],
+        1 | 14 => &[OUT_OF_RANGE, NOT_RUNNING, CANNOT_PAY],
+        15 => &[OUT_OF_RANGE, NOT_RUNNING],
+        _ => &[OUT_OF_RANGE, NOT_RUNNING, CANNOT_PAY, NOT_FOUND, RIGHT_MISSING],
+    };
+    [before, own].concat()
 }
 
 /// How two refusals can hold.
@@ -46,15 +52,15 @@ const HOLDS: [Hold; 3] = [Hold::Both, Hold::OnlyEarlier, Hold::OnlyLater];
 /// What cannot be met: calls, the two refusals, and how they cannot hold.
 const UNREACHABLE: [(&[u32], u32, u32, Hold); 7] = [
     // Without a capability there are no rights, no window, no place in the tree and no climb.
-    (&[2, 3, 4, 5, 6, 7, 8, 9, 10, 11, 12, 13, 16], 5, 6, Hold::Both),
-    (&[2, 3], 5, 7, Hold::Both),
-    (&[7], 5, 11, Hold::Both),
-    (&[8], 5, 9, Hold::Both),
-    (&[9], 5, 10, Hold::Both),
+    (&[2, 3, 4, 5, 6, 7, 8, 9, 10, 11, 12, 13, 16], NOT_FOUND, RIGHT_MISSING, Hold::Both),
+    (&[2, 3], NOT_FOUND, OUTSIDE_WINDOW, Hold::Both),
+    (&[7], NOT_FOUND, NOT_MASTER, Hold::Both),
+    (&[8], NOT_FOUND, TOO_LITTLE, Hold::Both),
+    (&[9], NOT_FOUND, OVERFLOWS, Hold::Both),
     // A data object has no box.
-    (&[13], 8, 14, Hold::Both),
+    (&[13], NOT_PROCESS, BOX_FULL, Hold::Both),
     // wait has no argument but the caller's name, and a caller out of range is absent.
-    (&[15], 2, 3, Hold::OnlyEarlier),
+    (&[15], OUT_OF_RANGE, NOT_RUNNING, Hold::OnlyEarlier),
 ];
 
 fn reachable(call: u32, pair: (u32, u32), hold: Hold) -> bool {
@@ -129,8 +135,8 @@ impl Coverage {
         let scenes = SCENES.iter().map(|scene| (scene.to_string(), count(scene)));
         let mut counts: Vec<(String, u64)> = scenes.collect();
         for call in 0..=CALLS.len() as u32 {
-            let done = (call > 0).then_some(0);
-            for code in done.into_iter().chain(refusals(call).iter().copied()) {
+            let done = (call > 0).then_some(DONE);
+            for code in done.into_iter().chain(refusals(call)) {
                 let count = self.answers.get(&(call, code)).copied();
                 let what = format!("{} answers {code}", name(call));
                 counts.push((what, count.unwrap_or(0)));
@@ -152,7 +158,7 @@ impl Coverage {
     pub fn unexpected(&self) -> Vec<String> {
         let mut found = Vec::new();
         for (call, code) in self.answers.keys() {
-            let done = *code == 0 && *call > 0;
+            let done = *code == DONE && *call > 0;
             if !done && !refusals(*call).contains(code) {
                 found.push(format!("{} answers {code}", name(*call)));
             }
@@ -198,8 +204,8 @@ impl Coverage {
 /// All two refusals of a call's list, the earlier one first.
 fn pairs(call: u32) -> Vec<(u32, u32)> {
     let list = refusals(call);
-    let later = |at: usize| list[at + 1..].iter().map(move |b| (list[at], *b));
-    (0..list.len()).flat_map(later).collect()
+    let later = |at: usize| list[at + 1..].iter().map(move |b| (at, *b));
+    (0..list.len()).flat_map(later).map(|(at, b)| (list[at], b)).collect()
 }
 
 fn name(call: u32) -> &'static str {
@@ -237,7 +243,7 @@ fn checked_run(profile: Profile, seed: u64, coverage: &mut Coverage) -> Result<(
     for _ in 0..profile.calls {
         let call = generator.next_call(&run.store);
         let held = holding(&run.store, &call);
-        let expected = held.first().map_or(0, |condition| condition.refusal);
+        let expected = held.first().map_or(DONE, |condition| condition.refusal);
         for scene in scenes(&run, &call, expected) {
             *coverage.scenes.entry(scene).or_default() += 1;
         }
@@ -246,7 +252,7 @@ fn checked_run(profile: Profile, seed: u64, coverage: &mut Coverage) -> Result<(
             return Err(format!("{call:?}: {} for {held:?}", answer.code));
         }
         coverage.note(&call, &held, answer.code);
-        if answer.code == 0 {
+        if answer.code == DONE {
             coverage.peaks.note(&run.store, &call);
         }
         stopped += u32::from(!run.store.objects.values().any(Object::runs));

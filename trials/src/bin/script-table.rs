@@ -3,7 +3,7 @@
 use std::process::ExitCode;
 
 fn main() -> ExitCode {
-    match reference::examples::definitions() {
+    match trials::examples::definitions() {
         Some(definitions) => {
             print!("{definitions}");
             ExitCode::SUCCESS

@@ -2,16 +2,16 @@
 //! damaged in every kind.
 
 use reference::claims;
-use reference::damage::{damage, Kind};
-use reference::encode::encode;
 use reference::kernel::Store;
-use reference::layout::*;
-use reference::oracle::well_formed;
-use reference::plain::{check, check_in_pairs};
-use reference::random::Random;
-use reference::raw::{decode, RawStore};
-use reference::samples::{shaped, stores_of_runs, Shape};
 use std::collections::BTreeSet;
+use trials::damage::{damage, Kind};
+use trials::encode::encode;
+use trials::layout::*;
+use trials::oracle::well_formed;
+use trials::plain::{check, check_in_pairs};
+use trials::random::Random;
+use trials::raw::{decode, RawStore};
+use trials::samples::{shaped, stores_of_runs, Shape};
 
 /// The answer of all checkers, which must be one.
 fn answer(raw: &RawStore, what: &dyn std::fmt::Debug) -> bool {

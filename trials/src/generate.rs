@@ -2,13 +2,12 @@
 //! beside it, so that most calls are done, and spoils some arguments, so that every refusal
 //! is met.
 
-use crate::call::{call_kind, Action, Call, Key, Name, Operation, CALLS};
-use crate::kernel::{
-    Capability, Object, Place, Store, MAX_RIGHTS, MAX_SERIAL, MAX_TRANSFER, TOP_BIT, VOLUMES,
-};
 use crate::profiles::Profile;
 use crate::random::Random;
-use crate::script;
+use reference::call::{call_kind, Action, Call, Key, Name, Operation, CALLS};
+use reference::kernel::{Capability, Object, Place, Store};
+use reference::numbers::*;
+use reference::script;
 
 /// The generator of one run.
 pub struct Generator {
@@ -43,16 +42,16 @@ impl Generator {
         match self.random.below(8) {
             0..=3 => self.random.below(100),
             4 => u32::MAX - self.random.below(2),
-            5 => TOP_BIT - self.random.below(2),
+            5 => TOP - self.random.below(2),
             _ => self.random.between(0, u32::MAX),
         }
     }
 
     fn drawn_p1(&mut self) -> u32 {
-        let top = u32::from(self.random.chance(self.profile.top_bit)) * TOP_BIT;
+        let top = u32::from(self.random.chance(self.profile.top_bit)) * TOP;
         let number =
             if self.random.chance(200) { self.word() } else { self.random.between(0, u32::MAX) };
-        (number & (TOP_BIT - 1)) | top
+        (number & (TOP - 1)) | top
     }
 
     /// The next call for this store. Most calls that would leave the running processes without
@@ -83,7 +82,12 @@ impl Generator {
                 Operation::On(self.present(store, caller, place), action)
             }
         };
-        Call { caller, operation, buffer: self.length(256), scratch: self.length(512) }
+        Call {
+            caller,
+            operation,
+            buffer: self.length(MIN_BUFFER),
+            scratch: self.length(MIN_SCRATCH),
+        }
     }
 
     /// A call number by the profile's weights; 0 stands for the unknown ones.
@@ -115,7 +119,7 @@ impl Generator {
 
     fn out_of_range(&mut self, name: Name) -> Name {
         match self.random.below(4) {
-            0 => Name { volume: VOLUMES, ..name },
+            0 => Name { volume: MAX_VOLUME + 1, ..name },
             1 => Name { volume: u32::MAX, ..name },
             2 => Name { serial: MAX_SERIAL + 1, ..name },
             _ => Name { serial: u32::MAX, ..name },
@@ -124,7 +128,7 @@ impl Generator {
 
     fn drawn_name(&mut self) -> Name {
         Name {
-            volume: self.random.below(VOLUMES),
+            volume: self.random.below(MAX_VOLUME + 1),
             serial: match self.random.below(40) {
                 0 => 0,
                 1 => MAX_SERIAL,
@@ -188,10 +192,10 @@ impl Generator {
 
     fn size(&mut self) -> u32 {
         if self.fault() {
-            return self.random.pick(&[8_193, 16_384, u32::MAX]).unwrap_or(0);
+            return self.random.pick(&[MAX_SIZE + 1, 2 * MAX_SIZE, u32::MAX]).unwrap_or(0);
         }
         match self.random.below(4) {
-            0 => 64 * self.random.between(0, self.profile.size / 64),
+            0 => BLOCK_SIZE * self.random.between(0, self.profile.size / BLOCK_SIZE),
             1 => self.profile.size,
             _ => self.random.between(0, self.profile.size),
         }
@@ -253,7 +257,7 @@ impl Generator {
         let found = place.and_then(|place| store.capabilities.get(&place));
         let mut key = Key { name, p1, p2: found.map_or(0, |capability| capability.p2) };
         let lockword = store.objects.get(&caller).map_or([0, 0], |o| o.lockword);
-        let locked = p1 >= TOP_BIT;
+        let locked = p1 >= TOP;
         // A fault is to lock a p1 without its top bit, or not to lock one with it.
         if locked != self.fault() {
             key.p1 ^= lockword[0];
@@ -392,15 +396,19 @@ impl Generator {
 
     fn lock_word(&mut self) -> u32 {
         if self.fault() {
-            TOP_BIT + self.random.below(2)
+            TOP + self.random.below(2)
         } else {
-            self.word() & (TOP_BIT - 1)
+            self.word() & (TOP - 1)
         }
     }
 
     fn message(&mut self) -> Vec<u8> {
-        let length =
-            if self.fault() { 17 + self.random.below(3) } else { self.random.between(0, 16) };
+        let longest = MAX_MESSAGE as u32;
+        let length = if self.fault() {
+            longest + 1 + self.random.below(3)
+        } else {
+            self.random.between(0, longest)
+        };
         self.random.bytes(length as usize)
     }
 
@@ -432,7 +440,9 @@ impl Generator {
             7 => line.extend_from_slice(b" 4294967296"),
             8 => line.extend_from_slice(&[b'9'; 30]),
             9 => line.extend(b" 1".repeat(1_100)),
-            10 => line = vec![b'1'; self.random.pick(&[2_048, 2_049, 9_000]).unwrap_or(1)],
+            10 => {
+                line = vec![b'1'; self.random.pick(&[MAX_LINE, MAX_LINE + 1, 9_000]).unwrap_or(1)]
+            }
             _ => line.insert(0, b'0'),
         }
         line

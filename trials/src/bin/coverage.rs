@@ -4,7 +4,7 @@ use std::process::ExitCode;
 
 fn main() -> ExitCode {
     let seed = std::env::args().nth(1).and_then(|seed| seed.parse().ok());
-    match reference::coverage::checked_runs(seed.unwrap_or(1)) {
+    match trials::coverage::checked_runs(seed.unwrap_or(1)) {
         Ok(coverage) => {
             print!("{}", coverage.table());
             let mut counts = coverage.reachable_counts();

@@ -2,7 +2,7 @@
 //! after every call, and the coverage of answers, of pairs of refusals and of their cases.
 
 use reference::call::call_kind;
-use reference::coverage::checked_runs;
+use trials::coverage::checked_runs;
 
 const PRESENTING: &[u32] = &[2, 3, 4, 5, 6, 7, 8, 9, 10, 11, 12, 13, 16];
 const ALL: &[u32] = &[1, 2, 3, 4, 5, 6, 7, 8, 9, 10, 11, 12, 13, 14, 15, 16];

@@ -2,12 +2,9 @@
 //! not only the first. A second writing of the refusals, to count coverage and to compare with
 //! the kernel's answer.
 
-use crate::call::{call_kind, Action, Call, Key, Name, Operation, Refusal};
-use crate::kernel::{
-    blocks_of, unlocked, Capability, Object, Place, Store, MAX_BLOCKS, MAX_CAPABILITIES,
-    MAX_MESSAGE, MAX_MESSAGES, MAX_OBJECTS, MAX_RIGHTS, MAX_SERIAL, MAX_SIZE, MAX_TRANSFER,
-    MIN_BUFFER, MIN_SCRATCH, TOP_BIT, VOLUMES,
-};
+use reference::call::{call_kind, Action, Call, Key, Name, Operation};
+use reference::kernel::{blocks_of, unlocked, Capability, Object, Place, Store};
+use reference::numbers::*;
 
 /// A reason for a refusal: the refusal's number and which of its cases.
 #[derive(Clone, Copy, Debug, PartialEq, Eq, PartialOrd, Ord)]
@@ -41,15 +38,15 @@ impl List {
     }
 
     fn range(&mut self, out_of_range: bool, case: &'static str) {
-        self.note(out_of_range, Refusal::BadArgument, case);
+        self.note(out_of_range, Refusal::OutOfRange, case);
     }
 
     fn arguments(&mut self, call: &Call) {
-        self.range(call.caller.volume >= VOLUMES, "caller's volume");
+        self.range(call.caller.volume > MAX_VOLUME, "caller's volume");
         self.range(call.caller.serial > MAX_SERIAL, "caller's serial");
         match &call.operation {
             Operation::MakeObj { size, flag, rights, drawn } => {
-                self.range(drawn.name.volume >= VOLUMES, "new volume");
+                self.range(drawn.name.volume > MAX_VOLUME, "new volume");
                 self.range(drawn.name.serial > MAX_SERIAL, "new serial");
                 self.range(*size > MAX_SIZE, "size");
                 self.range(*flag > 1, "flag");
@@ -58,7 +55,7 @@ impl List {
             Operation::Receive => self.range(call.buffer < MIN_BUFFER, "buffer"),
             Operation::Wait => {}
             Operation::On(key, action) => {
-                self.range(key.name.volume >= VOLUMES, "volume");
+                self.range(key.name.volume > MAX_VOLUME, "volume");
                 self.range(key.name.serial > MAX_SERIAL, "serial");
                 self.action_arguments(call, action);
             }
@@ -84,7 +81,7 @@ impl List {
             Action::DeleteCap | Action::RenameObj { .. } => {
                 self.range(call.scratch < MIN_SCRATCH, "scratch");
             }
-            Action::ApplyLock { words } => self.range(words[0] >= TOP_BIT, "lock word"),
+            Action::ApplyLock { words } => self.range(words[0] >= TOP, "lock word"),
             Action::Send { message, .. } => self.range(message.len() > MAX_MESSAGE, "message"),
             _ => {}
         }
@@ -99,13 +96,13 @@ impl List {
     fn caller(&mut self, store: &Store, call: &Call) {
         let caller = store.objects.get(&call.caller);
         let is = |mark: fn(&Object) -> bool| caller.is_some_and(mark);
-        self.note(caller.is_none(), Refusal::BadCaller, "absent");
-        self.note(is(|c| !c.process), Refusal::BadCaller, "data object");
-        self.note(is(|c| c.suspended), Refusal::BadCaller, "suspended");
-        self.note(is(|c| c.waiting), Refusal::BadCaller, "waiting");
-        self.note(is(|c| c.terminated), Refusal::BadCaller, "terminated");
+        self.note(caller.is_none(), Refusal::NotRunning, "absent");
+        self.note(is(|c| !c.process), Refusal::NotRunning, "data object");
+        self.note(is(|c| c.suspended), Refusal::NotRunning, "suspended");
+        self.note(is(|c| c.waiting), Refusal::NotRunning, "waiting");
+        self.note(is(|c| c.terminated), Refusal::NotRunning, "terminated");
         let poor = caller.is_some_and(|c| c.process && c.cash < fee(call));
-        self.note(poor, Refusal::FeeNotPaid, "cash below fee");
+        self.note(poor, Refusal::CannotPay, "cash below fee");
     }
 
     fn make_obj(&mut self, store: &Store, size: u32, name: Name) {
@@ -119,7 +116,7 @@ impl List {
     }
 
     fn no_capability_free(&mut self, store: &Store) {
-        let full = store.capabilities.len() == MAX_CAPABILITIES;
+        let full = store.capabilities.len() == MAX_CAPS;
         self.note(full, Refusal::NoSpace, "capabilities");
     }
 
@@ -164,12 +161,12 @@ impl List {
                 self.p1_taken(look, *p1);
             }
             Action::Withdraw { sum } => {
-                self.on_climb(look, Refusal::TooLittleMoney, |moneyword| moneyword < *sum);
+                self.on_climb(look, Refusal::TooLittle, |moneyword| moneyword < *sum);
             }
             Action::Deposit { sum } => {
                 self.cash_below(look, *sum);
                 let passes = |moneyword: u32| moneyword.checked_add(*sum).is_none();
-                self.on_climb(look, Refusal::MoneywordTooLarge, passes);
+                self.on_climb(look, Refusal::Overflows, passes);
             }
             Action::Suspend | Action::Resume | Action::ApplyLock { .. } => self.target(look),
             Action::Send { sum, .. } => {
@@ -194,19 +191,19 @@ impl List {
     /// can be said.
     fn capability(&mut self, store: &Store, call: &Call, key: Key) -> Option<Place> {
         let no_object = !store.objects.contains_key(&key.name);
-        self.note(no_object, Refusal::NoSuchCapability, "no object");
+        self.note(no_object, Refusal::NotFound, "no object");
         let lockword = match store.objects.get(&call.caller) {
             Some(caller) => caller.lockword,
-            None if key.p1 < TOP_BIT => [0, 0],
+            None if key.p1 < TOP => [0, 0],
             None => return None,
         };
         let (p1, p2) = unlocked(key.p1, key.p2, lockword);
         let found = store.capabilities.get(&(key.name, p1));
         let no_p1 = found.is_none() && !no_object;
-        self.note(no_p1, Refusal::NoSuchCapability, "no such p1");
+        self.note(no_p1, Refusal::NotFound, "no such p1");
         let matches = found.is_some_and(|c| c.p2 == p2);
         let wrong_p2 = found.is_some() && !matches;
-        self.note(wrong_p2, Refusal::NoSuchCapability, "wrong p2");
+        self.note(wrong_p2, Refusal::NotFound, "wrong p2");
         matches.then_some((key.name, p1))
     }
 
@@ -232,7 +229,7 @@ impl List {
 
     fn cash_below(&mut self, look: &Look, sum: u32) {
         let below = look.cash.is_some_and(|cash| cash < sum);
-        self.note(below, Refusal::TooLittleMoney, "cash");
+        self.note(below, Refusal::TooLittle, "cash");
     }
 
     fn on_climb(&mut self, look: &Look, refusal: Refusal, bad: impl Fn(u32) -> bool) {

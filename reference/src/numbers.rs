@@ -1,0 +1,116 @@
+//! 01's numbers by name, each written once here: answers and limits as in the verified kernel
+//! (crates/values/src/code.rt and limit.rt, held to these by a test), rights, and the longest line.
+
+/// The call was done.
+pub const DONE: u32 = 0;
+/// "the store is not well formed"
+pub const ILL_FORMED: u32 = 1;
+/// "unknown call or an argument out of range"
+pub const OUT_OF_RANGE: u32 = 2;
+/// "the caller is absent, a data object, suspended, waiting or terminated"
+pub const NOT_RUNNING: u32 = 3;
+/// "cash below the fee, and the caller becomes terminated"
+pub const CANNOT_PAY: u32 = 4;
+/// "no such object or password"
+pub const NOT_FOUND: u32 = 5;
+/// "right missing"
+pub const RIGHT_MISSING: u32 = 6;
+/// "the range is not inside the window"
+pub const OUTSIDE_WINDOW: u32 = 7;
+/// "not a process"
+pub const NOT_PROCESS: u32 = 8;
+/// "the caller's cash is below the sum"; of withdraw, "some moneyword .. is below the sum"
+pub const TOO_LITTLE: u32 = 9;
+/// "a moneyword on the climb would pass 4,294,967,295"
+pub const OVERFLOWS: u32 = 10;
+/// "not a master"
+pub const NOT_MASTER: u32 = 11;
+/// "the serial is taken on that volume"; "p1 is taken in the object"
+pub const TAKEN: u32 = 12;
+/// "64 objects or 512 capabilities live, or too few free blocks"
+pub const NO_SPACE: u32 = 13;
+/// "four messages in the box"
+pub const BOX_FULL: u32 = 14;
+/// "the box is empty"
+pub const BOX_EMPTY: u32 = 15;
+/// "not terminated, or sum 0"
+pub const NOT_REVIVABLE: u32 = 16;
+
+/// 01's refusals 2 to 16. Refusal 1 has no case: a store over maps that began fresh is always
+/// well formed.
+#[repr(u32)]
+#[derive(Clone, Copy, Debug, PartialEq, Eq, PartialOrd, Ord)]
+pub enum Refusal {
+    OutOfRange = OUT_OF_RANGE,
+    NotRunning = NOT_RUNNING,
+    CannotPay = CANNOT_PAY,
+    NotFound = NOT_FOUND,
+    RightMissing = RIGHT_MISSING,
+    OutsideWindow = OUTSIDE_WINDOW,
+    NotProcess = NOT_PROCESS,
+    TooLittle = TOO_LITTLE,
+    Overflows = OVERFLOWS,
+    NotMaster = NOT_MASTER,
+    Taken = TAKEN,
+    NoSpace = NO_SPACE,
+    BoxFull = BOX_FULL,
+    BoxEmpty = BOX_EMPTY,
+    NotRevivable = NOT_REVIVABLE,
+}
+
+impl Refusal {
+    /// 01's number for the refusal.
+    pub fn number(self) -> u32 {
+        self as u32
+    }
+}
+
+/// "Volumes are 0 to 3."
+pub const MAX_VOLUME: u32 = 3;
+/// "a serial, 0 to 65,535"
+pub const MAX_SERIAL: u32 = 65_535;
+/// "At most 64 objects live."
+pub const MAX_OBJECTS: usize = 64;
+/// "a size of 0 to 8,192 bytes"
+pub const MAX_SIZE: u32 = 8_192;
+/// "held in blocks of 64 bytes, 512 in all"
+pub const BLOCK_SIZE: u32 = 64;
+pub const MAX_BLOCKS: u32 = 512;
+/// "At most 512 live in the store.", of capabilities
+pub const MAX_CAPS: usize = 512;
+/// "a box of at most 4 messages"
+pub const MAX_MESSAGES: usize = 4;
+/// "A message is 0 to 16 bytes"
+pub const MAX_MESSAGE: usize = 16;
+/// "Rights add up, 0 to 8191"
+pub const MAX_RIGHTS: u32 = 8_191;
+/// "a read or write of at most 256 bytes"
+pub const MAX_TRANSFER: u32 = 256;
+/// "answer buffer of at least 256 bytes"
+pub const MIN_BUFFER: usize = 256;
+/// "scratch of at least 512 16-bit numbers"
+pub const MIN_SCRATCH: usize = 512;
+/// "a lock's first word below 2,147,483,648"; "If the presented p1 is 2,147,483,648 or more"
+pub const TOP: u32 = 2_147_483_648;
+/// The largest 32-bit number: "the money total is at most 4,294,967,295"
+pub const MAX_WORD: u32 = 4_294_967_295;
+/// "lines of at most 2,048 bytes ended by byte 10, which is not counted"
+pub const MAX_LINE: usize = 2_048;
+
+/// "Rights add up": the thirteen, and none for a call that presents no capability.
+pub mod right {
+    pub const NONE: u32 = 0;
+    pub const READ: u32 = 1;
+    pub const WRITE: u32 = 2;
+    pub const CAP_INFO: u32 = 4;
+    pub const DERIVE_CAP: u32 = 8;
+    pub const DELETE_CAP: u32 = 16;
+    pub const RENAME_OBJ: u32 = 32;
+    pub const WITHDRAW: u32 = 64;
+    pub const DEPOSIT: u32 = 128;
+    pub const SUSPEND: u32 = 256;
+    pub const RESUME: u32 = 512;
+    pub const APPLY_LOCK: u32 = 1_024;
+    pub const SEND: u32 = 2_048;
+    pub const REVIVE: u32 = 4_096;
+}

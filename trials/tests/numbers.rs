@@ -1,0 +1,33 @@
+//! The reference's answers, limits and rights are those of the verified kernel, by name and number.
+
+use std::collections::BTreeMap;
+
+const REFERENCE: &str = include_str!("../../reference/src/numbers.rs");
+const CODES: &str = include_str!("../../crates/values/src/code.rt");
+const LIMITS: &str = include_str!("../../crates/values/src/limit.rt");
+const RIGHTS: &str = include_str!("../../crates/values/src/rights.rt");
+
+/// A line `pub const NAME: type = number;`, the number perhaps in a tuple struct.
+fn constant(line: &str) -> Option<(String, u64)> {
+    let (name, rest) = line.trim().strip_prefix("pub const ")?.split_once(':')?;
+    let digits = rest.split_once('=')?.1.chars().filter(char::is_ascii_digit);
+    Some((name.to_owned(), digits.collect::<String>().parse().ok()?))
+}
+
+fn constants(text: &str) -> BTreeMap<String, u64> {
+    text.lines().filter_map(constant).collect()
+}
+
+#[test]
+fn numbers_are_the_kernels() {
+    let (outer, rights) = REFERENCE.split_once("pub mod right").expect("the rights");
+    let mut kernel = constants(CODES);
+    assert_eq!(kernel.len(), 17);
+    kernel.extend(constants(LIMITS));
+    let mut ours = constants(outer);
+    // of scripts, which `values` knows nothing of
+    assert_eq!(ours.remove("MAX_LINE"), Some(2_048));
+    assert_eq!(ours, kernel);
+    assert_eq!(constants(rights), constants(RIGHTS));
+    assert_eq!(constants(rights).len(), 14);
+}
