@@ -1,4 +1,4 @@
-//! The verified kernel's C functions as safe functions on slices. All unsafe code is here.
+//! The verified kernel's C functions as safe functions on slices. All unsafe code is here, but for `stack`.
 
 use crate::request::{Request, REPLY};
 use trials::raw::RawStore;

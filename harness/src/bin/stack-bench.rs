@@ -1,0 +1,128 @@
+//! How deep the verified functions go on the stack: the check on several shapes of tree, and each
+//! call on a chain of capabilities, 512 deep where the call needs no free one.
+
+use harness::kernel::{self, FormedStore};
+use harness::request::Request;
+use harness::stack::depth;
+use reference::call::{Action, Call, Key, Name, Operation};
+use reference::kernel::{Capability, Message, Object, Store};
+use reference::numbers::{DONE, MAX_RIGHTS, MAX_SIZE, MIN_BUFFER, MIN_SCRATCH};
+use trials::encode::encode;
+use trials::random::Random;
+use trials::raw::RawStore;
+use trials::samples::{shaped, Shape};
+
+const NAME: Name = Name { volume: 0, serial: 0 };
+const OTHER: Key = Key { name: Name { volume: 1, serial: 1 }, p1: 3, p2: 4 };
+
+/// A store of one process with cash, mail and a chain of so many capabilities.
+fn chain(length: u32) -> Store {
+    let mut store = shaped(1, MAX_SIZE as usize, length, Shape::Deep, &mut Random::new(1));
+    for object in store.objects.values_mut() {
+        object.cash = 1_000_000;
+        object.messages.push_back(Message { bytes: vec![1; 16], sum: 1 });
+    }
+    store
+}
+
+/// A shorter chain beside a terminated process, with a capability to spare.
+fn chain_and_other() -> Store {
+    let mut store = chain(510);
+    let other = Object { process: true, terminated: true, ..Object::default() };
+    store.objects.insert(OTHER.name, other);
+    let (p2, rights) = (OTHER.p2, MAX_RIGHTS);
+    let master = Capability { p2, parent: None, moneyword: 0, start: 0, end: 0, rights };
+    store.capabilities.insert((OTHER.name, OTHER.p1), master);
+    store
+}
+
+/// The master and the lowest capability of the chain.
+fn ends(store: &Store) -> (Key, Key) {
+    let length = |p1: u32| store.climb((NAME, p1)).len();
+    let key = |(p1, found): (u32, &Capability)| Key { name: NAME, p1, p2: found.p2 };
+    let master = store.tree(NAME).min_by_key(|(p1, _)| length(*p1));
+    let lowest = store.tree(NAME).max_by_key(|(p1, _)| length(*p1));
+    (master.map(key).expect("a master"), lowest.map(key).expect("a capability"))
+}
+
+/// Calls on a chain that need nothing free.
+fn on_chain(store: &Store) -> Vec<Operation> {
+    let (master, lowest) = ends(store);
+    let (start, end) = (MAX_SIZE - 300, MAX_SIZE - 44);
+    let on_lowest = [
+        Action::Read { start, end },
+        Action::Write { start, end, data: vec![7; 256] },
+        Action::CapInfo,
+        Action::Withdraw { sum: 5 },
+        Action::Deposit { sum: 5 },
+        Action::Suspend,
+        Action::Resume,
+        Action::ApplyLock { words: [1, 2] },
+        Action::Send { sum: 5, message: vec![1; 16] },
+    ];
+    let mut calls: Vec<_> = on_lowest.map(|action| Operation::On(lowest, action)).into();
+    calls.push(Operation::On(master, Action::DeleteCap));
+    calls.push(Operation::On(master, Action::RenameObj { p1: 1, p2: 2 }));
+    calls.extend([Operation::Receive, Operation::Wait]);
+    calls
+}
+
+/// Calls that need something free, or another process.
+fn beside_chain(store: &Store) -> Vec<Operation> {
+    let (_, lowest) = ends(store);
+    let drawn = Key { name: Name { volume: 3, serial: 9 }, p1: 1, p2: 2 };
+    let derive = Action::DeriveCap { mask: MAX_RIGHTS, start: 0, end: MAX_SIZE, p1: 1, p2: 2 };
+    vec![
+        Operation::MakeObj { size: MAX_SIZE, flag: 1, rights: MAX_RIGHTS, drawn },
+        Operation::On(lowest, derive),
+        Operation::On(OTHER, Action::Revive { sum: 5 }),
+    ]
+}
+
+/// The call's depth, checked and unchecked.
+fn depths(raw: &RawStore, operation: Operation) -> [usize; 2] {
+    let call = Call { caller: NAME, operation, buffer: MIN_BUFFER, scratch: MIN_SCRATCH };
+    let request = Request::new(&call, 0);
+    let (mut buffer, mut scratch) = (vec![0; MIN_BUFFER], vec![0; MIN_SCRATCH]);
+    let mut copy = raw.clone();
+    let mut formed = FormedStore::new(raw.clone()).expect("a well-formed store");
+    let whole = depth(|| {
+        let reply = kernel::call(&mut copy, &request, &mut buffer, &mut scratch);
+        assert_eq!(reply[0], DONE, "{call:?}");
+    });
+    let step = depth(|| {
+        let reply = formed.step(&request, &mut buffer, &mut scratch);
+        assert_eq!(reply[0], DONE, "{call:?}");
+    });
+    [whole, step]
+}
+
+fn main() {
+    let mut random = Random::new(2);
+    println!("bytes of stack below the Rust function that makes the call, its own included");
+    let mut fresh = encode(&Store::fresh(1, 2, 3), &mut random);
+    let made = depth(|| assert_eq!(kernel::fresh(1_000, [5, 9], &mut fresh), DONE));
+    println!("{:40}{made:>8}", "store_fresh");
+    let mut check = |what: &str, store: &Store| {
+        let raw = encode(store, &mut random);
+        let depth = depth(|| assert!(kernel::check(&raw)));
+        println!("{:40}{depth:>8}", format!("store_check, {what}"));
+    };
+    let mut draw = Random::new(3);
+    let mut tree = |objects, shape| shaped(objects, 512, 512 / objects, shape, &mut draw);
+    check("fresh", &Store::fresh(1_000, 5, 9));
+    check("1 object, wide tree of 512", &tree(1, Shape::Wide));
+    check("1 object, chain of 512", &tree(1, Shape::Deep));
+    check("64 objects of 8", &tree(64, Shape::Random));
+    println!("\n{:24}{:>16}{:>24}", "call number", "store_call", "store_step_unchecked");
+    let (full, spare) = (chain(512), chain_and_other());
+    let calls = [on_chain(&full), beside_chain(&spare)];
+    for (store, calls) in [&full, &spare].into_iter().zip(calls) {
+        let raw = encode(store, &mut Random::new(4));
+        for operation in calls {
+            let number = operation.number();
+            let [whole, step] = depths(&raw, operation);
+            println!("{number:<24}{whole:>16}{step:>24}");
+        }
+    }
+}
