@@ -141,7 +141,7 @@ fn buffers() {
     }
 }
 
-/// The sheet of the README's script, and of 01's, where all that was lent has ended.
+/// The sheet of the manual's script, and of 01's, where all that was lent has ended.
 #[test]
 fn sheets() {
     let lending = include_bytes!("../../docs/lending.script");

@@ -1,0 +1,71 @@
+//! The tables of docs/MANUAL.md say what the reference has: calls, fees, rights, refusals, limits.
+
+use reference::call::CALLS;
+use std::collections::BTreeMap;
+use trials::coverage::refusals;
+
+const MANUAL: &str = include_str!("../../docs/MANUAL.md");
+const NUMBERS: &str = include_str!("../../reference/src/numbers.rs");
+
+/// The cells of the table rows of a section, which starts with this line.
+fn rows(section: &str) -> Vec<Vec<&'static str>> {
+    let from = MANUAL.lines().skip_while(move |line| *line != section).skip(1);
+    let lines = from.take_while(|line| !line.starts_with('#'));
+    let tables = lines.filter_map(|line| line.strip_prefix('|')?.strip_suffix('|'));
+    tables.map(|row| row.split('|').map(str::trim).collect()).collect()
+}
+
+/// The constants of the reference's file of numbers, by name.
+fn constants(text: &'static str) -> BTreeMap<&'static str, u32> {
+    let constant = |line: &'static str| {
+        let (name, rest) = line.trim().strip_prefix("pub const ")?.split_once(':')?;
+        Some((name, number(rest.split_once('=')?.1.trim().strip_suffix(';')?)?))
+    };
+    text.lines().filter_map(constant).collect()
+}
+
+fn number(digits: &str) -> Option<u32> {
+    digits.replace([',', '_'], "").parse().ok()
+}
+
+#[test]
+fn calls() {
+    let rights = constants(NUMBERS.split_once("pub mod right").expect("the rights").1);
+    let calls = rows("## The calls");
+    let calls: Vec<_> = calls.iter().filter(|row| number(row[0]).is_some()).collect();
+    assert_eq!(calls.len(), CALLS.len());
+    for (row, kind) in calls.iter().zip(CALLS) {
+        let [at, name, fee, right, _, then, _] = row[..] else { panic!("{row:?}") };
+        assert_eq!((number(at), name), (Some(kind.number), kind.name));
+        assert_eq!(number(fee), Some(kind.fee), "{name}");
+        assert_eq!(if right.is_empty() { 0 } else { rights[right] }, kind.right, "{name}");
+        let shared = if right.is_empty() { 4 } else { 6 };
+        let met = refusals(kind.number);
+        let own: Vec<u32> = met.into_iter().filter(|refusal| *refusal > shared).collect();
+        let then: Vec<u32> = then.split(", ").filter_map(number).collect();
+        assert_eq!(then, own, "{name}");
+    }
+}
+
+#[test]
+fn rights_answers_and_limits() {
+    let (outer, rights) = NUMBERS.split_once("pub mod right").expect("the rights");
+    let mut rights = constants(rights);
+    rights.remove("NONE");
+    let table = rows("### Rights");
+    let named: BTreeMap<_, _> =
+        table[0].iter().zip(&table[2]).map(|(name, n)| (*name, number(n).expect(name))).collect();
+    assert_eq!(named, rights);
+    let mut said = BTreeMap::new();
+    for row in rows("### Answers") {
+        said.extend(number(row[0]).map(|n| (row[1], n)));
+    }
+    assert_eq!(said.len(), 17);
+    for row in rows("### Limits").iter().skip(2) {
+        let numbers = row[1].split(", ").map(|n| number(n).expect("a number"));
+        said.extend(row[0].split(", ").zip(numbers));
+    }
+    let mut ours = constants(outer);
+    ours.remove("MAX_LINE");
+    assert_eq!(said, ours);
+}
