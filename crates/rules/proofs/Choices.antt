@@ -2,8 +2,11 @@
 use Prim.Native.Nat.{ℕ}
 use mathlib.Core.Path.{_≡_, refl, sym, ap, _∙_, subst}
 use mathlib.Core.Bool.{Bool, true, false, not, _||_, true≢false}
+use native.Mathlib.Omega.{arith}
 use lib.Dec.{eqb, leb, ltb}
 use borrow.Author.Tests.{leb-false, eq-eqb}
+use Rattle.rules.specs.Limit as Limit
+use Rattle.rules.specs.Slots.{find}
 use Rattle.rules.specs.Store.{Cap, State, noCap, capLives, blocks, objectsLive, capsLive, freeBlocks}
 use Rattle.rules.specs.Valid.{Lives, Caps, Formed}
 use Rattle.rules.specs.Rights.{Op, makeObj, deriveCap, renameObj, op, presents}
@@ -12,8 +15,9 @@ use Rattle.rules.specs.Refusals.{_when_, caller}
 use Rattle.rules.specs.Calls.{makeObjRefuses, deriveCapRefuses, emptied, refuses}
 use Rattle.rules.specs.Rule.{paid, rule, isDone}
 use Rattle.rules.specs.Demand.{FreeObject, FreeCap, Open}
-use Rattle.rules.proofs.Tests.{by-bool, refuted, none2, lives, not-lives}
-use Rattle.rules.proofs.Slots.{free-slot}
+use Rattle.rules.specs.Script.{freed, lastFree}
+use Rattle.rules.proofs.Tests.{by-bool, refuted, none2, not-is-true, lives, not-lives}
+use Rattle.rules.proofs.Slots.{find-finds, find-some, free-slot}
 use Rattle.rules.proofs.Ending.{end-cap, was}
 use Rattle.rules.proofs.Ready.{Ready, slotOf, ready}
 use Rattle.rules.proofs.Answers.{done-by}
@@ -87,3 +91,44 @@ choose s c h G = done-by s c h (λ r. (g : Choice) × Open s c g) (λ e f.
     let r = takes (paid s c) c (caller s c) (slotOf s c) (keep-paid s G c e .formed .caps) (op (c .number))
     (ready s c (G .objects) e f) in
     (r .0, takes-open s c (r .0) (r .1)))
+
+-- ---- the last free slots are such
+
+object-found : (s : State) (o : ℕ) → FreeObject s o → FreeObject s (find Limit.objects (λ i. not (s .object i .live)))
+unfolding FreeObject
+object-found s o F =
+    let t : ℕ → Bool = λ i. not (s .object i .live) in
+    let n = find-some Limit.objects t o (F .0) (F .1) (ap not (F .2)) in
+    let r = find-finds Limit.objects t n in
+    (omega arith, r .1, not-is-true (s .object (find Limit.objects t) .live) (r .0))
+
+cap-found : (s : State) (i : ℕ) → FreeCap s i → FreeCap s (find Limit.caps (λ j. not (capLives s j)))
+unfolding FreeCap
+cap-found s i F =
+    let t : ℕ → Bool = λ j. not (capLives s j) in
+    let n = find-some Limit.caps t i (F .0) (F .1) (ap not (F .2)) in
+    let r = find-finds Limit.caps t n in
+    (omega arith, r .1, not-is-true (capLives s (find Limit.caps t)) (r .0))
+
+-- in the store in which the call takes them
+module _ (s : State) (c : Call) (o : Op) (x : State) (e : op (c .number) ≡ o) (f : freed s c o ≡ x) where
+  object-last : (i : ℕ) → FreeObject x i → FreeObject x (lastFree s c .object)
+  unfolding lastFree
+  object-last i F = subst (λ (y : State). FreeObject x (find Limit.objects (λ j. not (y .object j .live))))
+      (sym (ap (freed s c) e ∙ f)) (object-found x i F)
+
+  cap-last : (i : ℕ) → FreeCap x i → FreeCap x (lastFree s c .cap)
+  unfolding lastFree
+  cap-last i F = subst (λ (y : State). FreeCap x (find Limit.caps (λ j. not (capLives y j))))
+      (sym (ap (freed s c) e ∙ f)) (cap-found x i F)
+
+pub last-open : (s : State) (c : Call) → Formed s → isDone (rule s c (lastFree s c)) ≡ true → Open s c (lastFree s c)
+unfolding freed
+last-open s c G d =
+    let g = choose s c (lastFree s c) G d in
+    record {
+      object = λ e. object-last s c makeObj s e refl (g .0 .object) (g .1 .object e);
+      made = λ e. cap-last s c makeObj s e refl (g .0 .cap) (g .1 .made e);
+      derived = λ e. cap-last s c deriveCap s e refl (g .0 .cap) (g .1 .derived e);
+      renamed = λ e. cap-last s c renameObj _ e refl (g .0 .cap) (g .1 .renamed e);
+    }

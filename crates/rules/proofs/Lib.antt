@@ -37,3 +37,14 @@ pub mod Ended
 pub mod Choices
 pub mod Runs
 pub mod Theorems
+-- which free slots are taken is not seen: slots one to one, two states that differ in their slots alone, the calls on them
+pub mod Carried
+pub mod Onto
+pub mod Moving
+pub mod Changing
+pub mod Meaning
+pub mod Meant
+pub mod Refusing
+pub mod Doing
+pub mod Blind
+pub mod Taken

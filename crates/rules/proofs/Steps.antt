@@ -69,7 +69,7 @@ module _ (l : Ledger) (c : Call) (n : ℕ) where
 -- ---- a step
 
 -- the fee changes no slot that is asked for
-open-takes : (s : State) (c : Call) (h : Choice) → Open s c h
+pub open-takes : (s : State) (c : Call) (h : Choice) → Open s c h
     → Takes (paid s c) c (caller s c) (slotOf s c) h (op (c .number))
 unfolding paid toHouse spend withCash withHouse FreeObject FreeCap capLives emptied endWhere withMoney withCap
     presented

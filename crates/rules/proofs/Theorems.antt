@@ -3,12 +3,12 @@ use mathlib.Core.Path.{subst}
 use mathlib.Core.List.{_∷_}
 use Rattle.rules.specs.Demand.{Now, start, run, Legal, Demand3}
 use Rattle.rules.specs.Theorems.{FreshValid, ValidKept, MoneyKept, RefusedLeaves, AnswerFixed, ChoiceExists}
-use Rattle.rules.specs.Theorems.{RunExists}
+use Rattle.rules.specs.Theorems.{LastFree, RunExists}
 use Rattle.rules.proofs.Answers.{refused-rule, answer-same}
 use Rattle.rules.proofs.Steps.{keep-step}
 use Rattle.rules.proofs.Fresh.{valid-fresh}
 use Rattle.rules.proofs.Claims.{claims}
-use Rattle.rules.proofs.Choices.{choose}
+use Rattle.rules.proofs.Choices.{choose, last-open}
 use Rattle.rules.proofs.Runs.{valid-step, good-start, good-run, legal-front, ended-next, run-of}
 
 pub fresh-valid : FreshValid
@@ -34,6 +34,10 @@ answer-fixed = answer-same
 pub choice-exists : ChoiceExists
 unfolding ChoiceExists
 choice-exists s c h v = choose s c h (v .formed)
+
+pub last-free : LastFree
+unfolding LastFree
+last-free s c v = last-open s c (v .formed)
 
 pub run-exists : RunExists
 unfolding RunExists start

@@ -15,6 +15,9 @@ pub mod Rule
 pub mod Ledger
 pub mod Demand
 pub mod Theorems
+pub mod Meaning
+pub mod Blind
+pub mod Taken
 pub mod Script
 pub mod Edges
 pub mod Scripts

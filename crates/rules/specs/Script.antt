@@ -5,6 +5,8 @@ use mathlib.Core.Bool.{Bool, true, false, not, _&&_}
 use mathlib.Core.List.{List, [], _∷_, _++_}
 use lib.Dec.{eqb, leb, ltb}
 use lib.ListN.{length, drop, getD}
+use Rattle.rules.specs.Limit as Limit
+use Rattle.rules.specs.Code as Code
 use Rattle.rules.specs.Slots as Slots
 use Rattle.rules.specs.Store as Store
 use Rattle.rules.specs.Rights as Rights
@@ -20,6 +22,9 @@ use Rattle.rules.specs.Store.{Password, State, capLives, allCash, allMas
 use Rattle.rules.specs.Rights.{Op, makeObj, read, write, capInfo, deriveCap, deleteCap, renameObj, withdraw}
 use Rattle.rules.specs.Rights.{deposit, suspend, resume, applyLock, send, receive, wait, revive, unknown, op}
 use Rattle.rules.specs.Call.{Call, Capability, Answer, Outcome, Choice, code}
+use Rattle.rules.specs.Password.{presented}
+use Rattle.rules.specs.Refusals.{caller}
+use Rattle.rules.specs.Calls.{emptied}
 use Rattle.rules.specs.Rule.{rule}
 
 -- ---- a line: call number, caller's volume and serial, the capability (volume, serial, p1, p2) where one is presented,
@@ -134,18 +139,40 @@ answerOf o a = elim (eqb (a .code) 0) [ true ↦ 0 ∷ results o a | false ↦ a
 
 -- ---- a run
 
+-- the store in which a call takes its free slots: rename_obj frees its object's own before it takes one
+unfoldable pub freed : State → Call → Op → State
+freed s c makeObj = s
+freed s c read = s
+freed s c write = s
+freed s c capInfo = s
+freed s c deriveCap = s
+freed s c deleteCap = s
+freed s c renameObj = emptied s c (caller s c) (presented s (caller s c) (c .presented))
+freed s c withdraw = s
+freed s c deposit = s
+freed s c suspend = s
+freed s c resume = s
+freed s c applyLock = s
+freed s c send = s
+freed s c receive = s
+freed s c wait = s
+freed s c revive = s
+freed s c unknown = s
+
 -- one way to take what is open: the last free object and the last free capability
-unfoldable pub lastFree : State → Choice
-lastFree s = record {
-  object = find 64 (λ o. not (s .object o .live));
-  cap = find 512 (λ i. not (capLives s i));
-}
+unfoldable pub lastFree : State → Call → Choice
+lastFree s c =
+    let r : State = freed s c (op (c .number)) in
+    record {
+      object = find Limit.objects (λ o. not (r .object o .live));
+      cap = find Limit.caps (λ i. not (capLives r i));
+    }
 
 -- a bad line is answered 2 and changes nothing
 unfoldable pub lineRule : State → List ℕ → Outcome
 lineRule s l = elim (lineFits (op (nth l 0)) l) [
-  | true ↦ rule s (callOf (op (nth l 0)) l) (lastFree s)
-  | false ↦ record { answer = code 2; after = s }
+  | true ↦ rule s (callOf (op (nth l 0)) l) (lastFree s (callOf (op (nth l 0)) l))
+  | false ↦ record { answer = code Code.outOfRange; after = s }
 ]
 
 -- cash, masters' moneywords, box sums, house
@@ -208,5 +235,5 @@ example = record {
 unfoldable pub computes : Unit {0}
 unfolding Slots.computes Store.computes Rights.computes Call.computes Password.computes Refusals.computes
     Update.computes Changes.computes Calls.computes Rule.computes areBytes lineFits callWith callOf written
-    results answerOf lastFree lineRule totals play writes says example
+    results answerOf freed lastFree lineRule totals play writes says example
 computes = tt

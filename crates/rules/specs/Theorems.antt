@@ -10,6 +10,7 @@ use Rattle.rules.specs.Refusals.{caller}
 use Rattle.rules.specs.Changes.{setTerminated}
 use Rattle.rules.specs.Rule.{paid, rule, isDone}
 use Rattle.rules.specs.Demand.{Words, FreshWords, Open, Allowed, Step, Legal, start}
+use Rattle.rules.specs.Script.{lastFree}
 
 -- ---- every call keeps the store well formed, and the money total
 
@@ -46,6 +47,10 @@ AnswerFixed = (s : State) (c : Call) (h g : Choice) → rule s c h .answer ≡ r
 -- where a call is done there is something free to take
 unfoldable pub ChoiceExists : Type 0
 ChoiceExists = (s : State) (c : Call) (h : Choice) → Valid s → isDone (rule s c h) ≡ true → (g : Choice) × Open s c g
+
+-- what a script's line takes was free, also where 512 capabilities live and rename_obj frees its own
+unfoldable pub LastFree : Type 0
+LastFree = (s : State) (c : Call) → Valid s → isDone (rule s c (lastFree s c)) ≡ true → Open s c (lastFree s c)
 
 unfoldable pub AllWords : List Call → Type 0
 AllWords [] = Unit {0}
