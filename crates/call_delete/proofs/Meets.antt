@@ -114,7 +114,7 @@ module _ {b l w : List ℕ} (W : WellFormed b l w) where
             (λ nz. absurd (nz (parent-is b l w k (h .live) ∙ top)));
         sized = ended-sized L;
         cells = ended-cells L (masterLinks l k) (rows L);
-        shape = ended-shape L (masterLinks l k) (rows L);
+        links = ended-shape L (masterLinks l k) (rows L);
       }
 
     -- ---- no master
@@ -131,7 +131,7 @@ module _ {b l w : List ℕ} (W : WellFormed b l w) where
             (λ nz. ap done (sym (deleted-view C W c me)));
         sized = deleted-sized C W;
         cells = deleted-cells C W;
-        shape = deleted-shape C;
+        links = deleted-shape C;
       }
 
     -- ---- the whole

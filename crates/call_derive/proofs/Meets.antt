@@ -138,7 +138,7 @@ module _ {b l w : List ℕ} (f : WellFormed b l w) (c : Call) (me k : ℕ) (h : 
             words = W .long ∙ f .sized .words;
           };
           cells = cells-kept b l b m (R .master-same ∙ M .master-same) refl refl refl refl refl refl (f .cells);
-          shape = derived-shape l (f .shape) k x (f .sized .links) (h .live) nz object-is parent-is;
+          links = derived-shape l (f .shape) k x (f .sized .links) (h .live) nz object-is parent-is;
         }
 
   pub derive-meets : op (c .number) ≡ deriveCap

@@ -21,12 +21,11 @@ use Rattle.rules.proofs.Slots.{sum-at}
 use Rattle.rules.proofs.Tests.{by-bool}
 use Rattle.layout.specs.Rows.{flagOf, countOf, lengthOf, textIn, masterOf, ownerOf, cashOf, sumOf}
 use Rattle.layout.specs.View.{isProcess, messages, view}
-use Rattle.layout.specs.WellFormed.{WellFormed}
+use Rattle.layout.specs.WellFormed.{Plain}
 use Rattle.layout.proofs.Shown.{process-yes, process-is, process-lives, process-flag, cap-object, cash-here, box-here}
 use Rattle.layout.proofs.Lengths.{messages-length}
-use Rattle.layout.proofs.Shaped.{shaped}
-use Rattle.call_steps.specs.Run.{Process, Held, Meets, over}
-use Rattle.call_steps.proofs.Meeting.{none, takes, Does, meets-settled}
+use Rattle.call_steps.specs.Run.{Process, Held, MeetsPlain, over}
+use Rattle.call_steps.proofs.Meeting.{none, takes, DoesPlain, plain-settled}
 use Rattle.call_steps.proofs.Holding.{target-of}
 use Rattle.call_mail.specs.Runs.{messageSlot, SendAsks, sendStop, sentBytes, sentWords, sendRun}
 use Rattle.call_mail.specs.Runs.{oldest, oldestBytes, receivedBytes, receivedWords, ReceiveAsks, answered, receiveStop}
@@ -51,13 +50,13 @@ opened n e z =
     let t : first (15 when eqb n 0 ∷ []) ≡ 15 = rw (eq-eqb n 0 z) refl in
     omega arith
 
-module _ {b l w : List ℕ} (f : WellFormed b l w) where
+module _ {b l w : List ℕ} (f : Plain b l w) where
   pub send-asks : {me k : ℕ} (text : List ℕ) → Process b l me → Held l k → length text ≤ 16
       → SendAsks b l w text me k
   send-asks text m h short = record {
     sized = f .sized;
     caller = record { low = m .low; high = m .high };
-    target = target-of (f .shape) h;
+    target = target-of f h;
     short = short;
   }
 
@@ -136,7 +135,7 @@ module _ {b l w : List ℕ} (f : WellFormed b l w) where
           (sent-marks b l w Z C (c .bytes) short me o (c .sum) m P room)
           (sent-box b l w Z C (c .bytes) short me o (c .sum) m P room)
 
-      send-does : Does s c me k send (over 0 b′ l w′)
+      send-does : DoesPlain l s c me k send (over 0 b′ l w′)
       unfolding over done does sendDoes
       send-does =
           let Z = f .sized in
@@ -146,15 +145,15 @@ module _ {b l w : List ℕ} (f : WellFormed b l w) where
             sized = sent-sized b l w Z C (c .bytes) short me o (c .sum) m P room;
             cells = boxed-cells (sent-boxed b l w Z C (c .bytes) short me o (c .sum) m P room) l C
                 (sent-awake b l w Z C (c .bytes) short me o (c .sum) m P room);
-            shape = f .shape;
+            links = refl;
           }
 
     pub send-meets : Process b l me → Held l k → length (c .bytes) ≤ 16 → op (c .number) ≡ send
-        → Meets s c me k send (sendRun b l w (c .bytes) me k (c .sum))
+        → MeetsPlain l s c me k send (sendRun b l w (c .bytes) me k (c .sum))
     unfolding takes refuses sendRun sendStop
     send-meets m h short e =
-        let T = target-of (f .shape) h in
-        meets-settled b l w c me k send (rw e refl) f (sendStop b l w me k (c .sum)) _ (send-stop m) (λ z.
+        let T = target-of f h in
+        plain-settled b l w c me k send (rw e refl) f (sendStop b l w me k (c .sum)) _ (send-stop m) (λ z.
         let u = unstopped (isProcess (masterOf l) (flagOf b) o) (ltb (cashOf w me) (c .sum)) (leb 4 (countOf b o)) z in
         let P : Process b l o = record {
           low = T .slot .low;
@@ -198,7 +197,7 @@ module _ {b l w : List ℕ} (f : WellFormed b l w) where
           (box-here b l w me (process-yes (masterOf l) (flagOf b) me (m .live) (m .flag))
           ∙ ap (λ i. messages i (lengthOf b) (sumOf w) (textIn b) (oldest me)) some)
 
-      receive-does : Does s c me k receive
+      receive-does : DoesPlain l s c me k receive
           (answered 0 (sumOf w (oldest me)) (oldestBytes b me) (receivedBytes b me) l (receivedWords w me))
       unfolding answered handsOver does
       receive-does =
@@ -208,12 +207,12 @@ module _ {b l w : List ℕ} (f : WellFormed b l w) where
             rules = takes-oldest ∙ ap (handsOver (sumOf w (oldest me)) (oldestBytes b me)) (sym emptier);
             sized = received-sized b l w Z C me m n some;
             cells = boxed-cells (received-boxed b l w Z C me m n some) l C (received-waits b l w Z C me m n some);
-            shape = f .shape;
+            links = refl;
           }
 
-    pub receive-meets : Process b l me → op (c .number) ≡ receive → Meets s c me k receive (receiveRun b l w me)
+    pub receive-meets : Process b l me → op (c .number) ≡ receive → MeetsPlain l s c me k receive (receiveRun b l w me)
     unfolding takes refuses receiveRun receiveStop
     receive-meets m e =
-        meets-settled b l w c me k receive (rw e refl) f (receiveStop b me) _ (receive-stop m) (λ z.
+        plain-settled b l w c me k receive (rw e refl) f (receiveStop b me) _ (receive-stop m) (λ z.
         let some : countOf b me ≢ 0 = opened (countOf b me) z in
         receive-does m (countOf b me - 1) (omega arith))

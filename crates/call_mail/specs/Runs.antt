@@ -7,6 +7,8 @@ use mathlib.Core.Bool.{not}
 use mathlib.Core.List.{List, [], _∷_}
 use lib.Dec.{eqb, leb, ltb}
 use lib.ListN.{length, set, take, drop}
+use Rattle.rules.specs.Code as Code
+use Rattle.rules.specs.Limit as Limit
 use Rattle.rules.specs.Call.{noCapability}
 use Rattle.rules.specs.Refusals.{_when_, first}
 use Rattle.layout.specs.Layout as Layout
@@ -21,19 +23,19 @@ use Rattle.call_mail.specs.Copies.{copied}
 
 -- message m of object o
 abbrev pub messageSlot : ℕ → ℕ → ℕ
-messageSlot o m = o * 4 + m
+messageSlot o m = o * Limit.box + m
 
 -- where the text of message i starts
 abbrev pub textFrom : ℕ → ℕ
-textFrom i = Layout.TEXT + i * 16
+textFrom i = Layout.TEXT + i * Limit.message
 
 -- ---- send: 8 not a process; 9 the caller's cash is below the sum; 14 four messages in the box
 
 unfoldable pub sendStop : List ℕ → List ℕ → List ℕ → ℕ → ℕ → ℕ → ℕ
 sendStop b l w me k sum = first
-    (8 when not (isProcess (masterOf l) (flagOf b) (ownerOf l k))
-    ∷ 9 when ltb (cashOf w me) sum
-    ∷ 14 when leb 4 (countOf b (ownerOf l k))
+    (Code.notProcess when not (isProcess (masterOf l) (flagOf b) (ownerOf l k))
+    ∷ Code.tooLittle when ltb (cashOf w me) sum
+    ∷ Code.boxFull when leb Limit.box (countOf b (ownerOf l k))
     ∷ [])
 
 -- the text, and its length, of message i
@@ -65,18 +67,18 @@ sendRun b l w text me k sum = settled (sendStop b l w me k sum) b l w (over 0 (s
 -- ---- receive: 15 the box is empty
 
 unfoldable pub receiveStop : List ℕ → ℕ → ℕ
-receiveStop b me = first (15 when eqb (countOf b me) 0 ∷ [])
+receiveStop b me = first (Code.boxEmpty when eqb (countOf b me) 0 ∷ [])
 
 -- the slot of the oldest message of me, and its bytes
 abbrev pub oldest : ℕ → ℕ
-oldest me = me * 4
+oldest me = me * Limit.box
 
 abbrev pub oldestBytes : List ℕ → ℕ → List ℕ
-oldestBytes b me = take (lengthOf b (oldest me)) (drop (oldest me * 16) (textIn b))
+oldestBytes b me = take (lengthOf b (oldest me)) (drop (oldest me * Limit.message) (textIn b))
 
 -- the three messages after slot i move down one place
 abbrev pub movedTexts : List ℕ → ℕ → List ℕ
-movedTexts b i = copied 48 b (textFrom i + 16) b (textFrom i)
+movedTexts b i = copied 48 b (textFrom i + Limit.message) b (textFrom i)
 
 abbrev pub movedBytes : List ℕ → ℕ → List ℕ
 movedBytes b i = copied 3 (movedTexts b i) (Layout.LENGTH + i + 1) (movedTexts b i) (Layout.LENGTH + i)
@@ -128,14 +130,14 @@ pub record Receives (b w buffer : List ℕ) (me code sum count : ℕ) (b′ w′
 pub record PlaceAsks (b w text : List ℕ) (i : ℕ) : Type 0 where
   pub bytes : length b ≡ Layout.BYTES
   pub words : length w ≡ Layout.WORDS
-  pub short : length text ≤ 16
+  pub short : length text ≤ Limit.message
   pub high : i ≤ 259
 
 pub record SendAsks (b l w text : List ℕ) (me k : ℕ) : Type 0 where
   pub sized : Sized b l w
   pub caller : ObjectSlot me
   pub target : Target l k
-  pub short : length text ≤ 16
+  pub short : length text ≤ Limit.message
 
 pub record MoveAsks (b w : List ℕ) (i : ℕ) : Type 0 where
   pub bytes : length b ≡ Layout.BYTES
@@ -145,8 +147,8 @@ pub record MoveAsks (b w : List ℕ) (i : ℕ) : Type 0 where
 pub record ReceiveAsks (b w buffer : List ℕ) (me : ℕ) : Type 0 where
   pub bytes : length b ≡ Layout.BYTES
   pub words : length w ≡ Layout.WORDS
-  pub room : 256 ≤ length buffer
+  pub room : Limit.buffer ≤ length buffer
   pub caller : ObjectSlot me
-  pub short : countOf b me ≢ 0 → lengthOf b (oldest me) ≤ 16
+  pub short : countOf b me ≢ 0 → lengthOf b (oldest me) ≤ Limit.message
   -- the cash has room for the sum
-  pub fits : countOf b me ≢ 0 → cashOf w me + sumOf w (oldest me) ≤ 4294967295
+  pub fits : countOf b me ≢ 0 → cashOf w me + sumOf w (oldest me) ≤ Limit.word

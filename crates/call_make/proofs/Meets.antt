@@ -128,12 +128,12 @@ module _ {b l w : List ℕ} (f : WellFormed b l w) (c : Call) (me k : ℕ)
     abbrev made-object : Object
     made-object = record { live = true; name = c .name; size = c .size; process = eqb (c .flag) 1 }
 
-    L : LinksMade l (objectLinks l o n (c .name .serial) (c .size)) l′ o i
+    L : LinksMade l (objectLinks l o n (c .name .serial) (c .size) i) l′ o i
     unfolding madeLinks
     L = links-made l (f .sized .links) (f .shape) slot dead (P .cap) (c .name .serial) (c .size) room x x-object
         x-parent
 
-    O : ObjectMade b l w b′ (objectLinks l o n (c .name .serial) (c .size)) (recordWords w o) o made-object
+    O : ObjectMade b l w b′ (objectLinks l o n (c .name .serial) (c .size) i) (recordWords w o) o made-object
     unfolding madeBytes
     O = object-made-is b l w (f .sized) (f .shape .blocks) o slot dead (P .cap) (c .name) (c .size) (c .flag)
         (A .flag-fits) room
@@ -144,7 +144,7 @@ module _ {b l w : List ℕ} (f : WellFormed b l w) (c : Call) (me k : ℕ)
     shows : view b′ l′ w′ ≡ newCap (newObject s o made-object) i x 0
     unfolding madeLinks madeWords
     shows =
-        new-shows b′ (objectLinks l o n (c .name .serial) (c .size)) (recordWords w o) i x 0 0 (L .object-long) words
+        new-shows b′ (objectLinks l o n (c .name .serial) (c .size) i) (recordWords w o) i x 0 0 (L .object-long) words
         (F .low) (F .high) (λ z. omega (arith, slot .low, x-object, z))
         ∙ ap (λ r. newCap r i x 0) (O .shows)
 
@@ -166,7 +166,7 @@ module _ {b l w : List ℕ} (f : WellFormed b l w) (c : Call) (me k : ℕ)
         words = made-words (recordWords w o) i x 0 words (F .low) (F .high) .long ∙ words;
       };
       cells = O .cells l′ (L .master) (f .cells);
-      shape = L .shape;
+      links = L .shape;
     }
 
   pub make-meets : op (c .number) ≡ makeObj

@@ -6,6 +6,7 @@ use mathlib.Core.Bool.{true, false}
 use mathlib.Core.List.{List}
 use native.Mathlib.Omega.{arith}
 use lib.ListN.{length}
+use Rattle.rules.specs.Code as Code
 use Rattle.rules.specs.Store.{Name, Password, Cap, blocks, objectNamed}
 use Rattle.rules.specs.Call.{code}
 use Rattle.layout.specs.View.{view}
@@ -40,14 +41,14 @@ holds-is b l o size n e b′ l′ p q = record {
 
 module _ {b l w : List ℕ} {o : ℕ} {name : Name} {size flag rights : ℕ} (a : PlaceAsks b l w o name size flag rights)
     {b₁ l₁ : List ℕ} (H : Holds b l o size b₁ l₁)
-    {b₂ l₂ w₂ : List ℕ} (R : Records b₁ l₁ w o name size flag b₂ l₂ w₂) where
-  links-are : l₂ ≡ objectLinks l o (blocks size) (name .serial) size
+    {b₂ l₂ w₂ : List ℕ} (R : Records b₁ l₁ w o name size flag (freeCap l) b₂ l₂ w₂) where
+  links-are : l₂ ≡ objectLinks l o (blocks size) (name .serial) size (freeCap l)
   unfolding objectLinks
-  links-are = R .links ∙ ap (λ x. recordLinks x o (name .serial) size) (H .links)
+  links-are = R .links ∙ ap (λ x. recordLinks x o (name .serial) size (freeCap l)) (H .links)
 
   pub cap-asks : Grow.MakeAsks l₂ w₂
   cap-asks =
-      let D = recorded l o (name .serial) size (a .slot) (blocks size) (a .enough) in
+      let D = recorded l o (name .serial) size (freeCap l) (a .slot) (blocks size) (a .enough) in
       let head : freeCap l₂ ≡ freeCap l = ap freeCap links-are ∙ D .free-caps-head in
       record {
         links = ap length links-are ∙ D .long ∙ a .sized .links;
@@ -60,7 +61,7 @@ module _ {b l w : List ℕ} {o : ℕ} {name : Name} {size flag rights : ℕ} (a 
       → next ≡ 0 → Makes l₂ w₂ x next 0 r l₃ w₃ → Places b l w o name size flag rights drawn b₂ l₃ w₃
   unfolding madeBytes madeLinks madeWords
   places-is {x} {next} {r} {drawn} {l₃} {w₃} e z M =
-      let D = recorded l o (name .serial) size (a .slot) (blocks size) (a .enough) in
+      let D = recorded l o (name .serial) size (freeCap l) (a .slot) (blocks size) (a .enough) in
       let head : freeCap l₂ ≡ freeCap l = ap freeCap links-are ∙ D .free-caps-head in
       record {
         bytes = R .bytes ∙ ap (λ y. recordBytes y o (name .volume) flag) (H .bytes);
@@ -88,13 +89,13 @@ module _ {b l w : List ℕ} {name : Name} {size flag rights : ℕ} (a : MakeAsks
   unfolding makeRun
   refused-is drawn n nz e R = replies-stopped _ n e nz R
 
-  pub name-refused : (drawn : Password) {r : Reply} → objectNamed (view b l w) name ≢ 0 → Refuses 12 r
+  pub name-refused : (drawn : Password) {r : Reply} → objectNamed (view b l w) name ≢ 0 → Refuses Code.taken r
       → Replies r b l w (makeRun b l w name size flag rights drawn)
-  name-refused drawn h R = refused-is drawn 12 (omega arith) (stop-name b l w name size h) R
+  name-refused drawn h R = refused-is drawn Code.taken (omega arith) (stop-name b l w name size h) R
 
   pub space-refused : (drawn : Password) {r : Reply} → objectNamed (view b l w) name ≡ 0
-      → noSpace l (blocks size) ≡ true → Refuses 13 r → Replies r b l w (makeRun b l w name size flag rights drawn)
-  space-refused drawn z h R = refused-is drawn 13 (omega arith) (stop-space b l w name size z h) R
+      → noSpace l (blocks size) ≡ true → Refuses Code.noSpace r → Replies r b l w (makeRun b l w name size flag rights drawn)
+  space-refused drawn z h R = refused-is drawn Code.noSpace (omega arith) (stop-space b l w name size z h) R
 
   pub made-is : {drawn : Password} {r : Reply} (o : ℕ) → o ≡ freeObject l → objectNamed (view b l w) name ≡ 0
       → noSpace l (blocks size) ≡ false → {b′ l′ w′ : List ℕ}

@@ -117,10 +117,10 @@ module _ (w : List ℕ) (o : ℕ) (S : ObjectSlot o) where
 
 -- ---- the links, with the blocks taken
 
--- l′ is l with the record of object o, whose blocks are those of l₁
-pub record Recorded (l l₁ l′ : List ℕ) (o serial size : ℕ) : Type 0 where
+-- l′ is l with the record of object o, whose master is to be in slot i and whose blocks are those of l₁
+pub record Recorded (l l₁ l′ : List ℕ) (o serial size i : ℕ) : Type 0 where
   pub long : length l′ ≡ length l
-  pub master-is : masterOf l′ ≡ at (masterOf l) o (freeCap l)
+  pub master-is : masterOf l′ ≡ at (masterOf l) o i
   pub serial-is : serialOf l′ ≡ at (serialOf l) o serial
   pub size-is : sizeOf l′ ≡ at (sizeOf l) o size
   pub next-object-is : nextObjectOf l′ ≡ at (nextObjectOf l) o (getD l Layout.OBJECTS 0)
@@ -137,13 +137,13 @@ pub record Recorded (l l₁ l′ : List ℕ) (o serial size : ℕ) : Type 0 wher
   pub free-caps-head : freeCap l′ ≡ freeCap l
   pub free-blocks-head : freeHead l′ ≡ freeHead l₁
 
-module _ (l : List ℕ) (o serial size : ℕ) (S : ObjectSlot o) (n : ℕ) (E : Enough l n) where
+module _ (l : List ℕ) (o serial size i : ℕ) (S : ObjectSlot o) (n : ℕ) (E : Enough l n) where
   abbrev l₁ : List ℕ
   l₁ = takenLinks l o n
 
   abbrev linkStores : List Put
   linkStores =
-      put 64 Layout.MASTER o (freeCap l₁)
+      put 64 Layout.MASTER o i
       ∷ put 64 Layout.SIZE o size
       ∷ put 64 Layout.SERIAL o serial
       ∷ put 0 Layout.OBJECTS 0 o
@@ -182,17 +182,13 @@ module _ (l : List ℕ) (o serial size : ℕ) (S : ObjectSlot o) (n : ℕ) (E : 
       → beside (suc k) off none ≡ true → field k off (puts linkStores l₁) ≡ field k off l
   kept k off t u v = field-kept k off l₁ linkStores t links-within ∙ was-row k off u v
 
-  -- the first free capability is none of those that change
-  cap-head : freeCap l₁ ≡ freeCap l
-  cap-head = was-head Layout.«FREE_CAPS» (omega arith) refl refl
-
-  pub recorded : Recorded l l₁ (objectLinks l o n serial size) o serial size
+  pub recorded : Recorded l l₁ (objectLinks l o n serial size i) o serial size i
   unfolding objectLinks recordLinks
   recorded = record {
     long = length-puts linkStores l₁ ∙ taken-length l (E .links) o (S .low) (S .high) n;
     master-is = field-puts 64 Layout.MASTER l₁ (omega (arith, long₁)) linkStores refl links-within
         (S .low, (tt, (tt, (tt, (tt, (tt, tt))))))
-        ∙ (λ k. at (was-row 64 Layout.MASTER refl refl k) o (cap-head k));
+        ∙ (λ k. at (was-row 64 Layout.MASTER refl refl k) o i);
     serial-is = field-puts 64 Layout.SERIAL l₁ (omega (arith, long₁)) linkStores refl links-within
         (tt, (tt, (S .low, (tt, (tt, (tt, tt))))))
         ∙ (λ k. at (was-row 64 Layout.SERIAL refl refl k) o serial);
@@ -213,6 +209,7 @@ module _ (l : List ℕ) (o serial size : ℕ) (S : ObjectSlot o) (n : ℕ) (E : 
     objects-head = head-puts Layout.OBJECTS l₁ (omega (arith, long₁)) linkStores refl links-within;
     free-objects-head = head-puts Layout.«FREE_OBJECTS» l₁ (omega (arith, long₁)) linkStores refl links-within
         ∙ (λ k. was-row 64 Layout.«NEXT_OBJECT» refl refl k o);
-    free-caps-head = head-kept Layout.«FREE_CAPS» l₁ linkStores refl links-within ∙ cap-head;
+    free-caps-head = head-kept Layout.«FREE_CAPS» l₁ linkStores refl links-within
+        ∙ was-head Layout.«FREE_CAPS» (omega arith) refl refl;
     free-blocks-head = head-kept Layout.«FREE_BLOCKS» l₁ linkStores refl links-within;
   }

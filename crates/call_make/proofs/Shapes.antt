@@ -42,13 +42,13 @@ module _ (l : List ℕ) (long : length l ≡ Layout.LINKS) (s : Shape l) (S : Ob
   F = first-free l (s .caps) some
 
   abbrev l₂ : List ℕ
-  l₂ = objectLinks l o (blocks size) serial size
+  l₂ = objectLinks l o (blocks size) serial size i
 
   abbrev l′ : List ℕ
   l′ = newLinks l₂ i x 0
 
-  D : Recorded l (takenLinks l o (blocks size)) l₂ o serial size
-  D = recorded l o serial size S (blocks size)
+  D : Recorded l (takenLinks l o (blocks size)) l₂ o serial size i
+  D = recorded l o serial size i S (blocks size)
       (record { links = long; chain = (s .blocks .free, s .blocks .free-chain, room) })
 
   M : MadeLinks l₂ l′ i x 0

@@ -70,7 +70,7 @@ module _ (b l w : List ℕ) (Z : Sized b l w) (B : Blocks l) (o : ℕ) (S : Obje
     l₁ = takenLinks l o (blocks size)
 
     abbrev l′ : List ℕ
-    l′ = objectLinks l o (blocks size) (name .serial) size
+    l′ = objectLinks l o (blocks size) (name .serial) size (freeCap l)
 
     abbrev b₁ : List ℕ
     b₁ = clearedBytes b l (blocks size)
@@ -81,8 +81,8 @@ module _ (b l w : List ℕ) (Z : Sized b l w) (B : Blocks l) (o : ℕ) (S : Obje
     abbrev w′ : List ℕ
     w′ = recordWords w o
 
-    D : Recorded l l₁ l′ o (name .serial) size
-    D = recorded l o (name .serial) size S (blocks size) enough
+    D : Recorded l l₁ l′ o (name .serial) size (freeCap l)
+    D = recorded l o (name .serial) size (freeCap l) S (blocks size) enough
 
     abbrev C : Split (nextBlockOf l) (nextBlockOf l₁) (freeHead l) (firstBlockOf l₁ o) (freeHead l₁) (blocks size)
         (B .free)

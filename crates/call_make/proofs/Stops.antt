@@ -7,6 +7,7 @@ use mathlib.Core.List.{List}
 use lib.Dec.{eqb}
 use lib.ListN.{getD, set}
 use borrow.Author.Tests.{eq-eqb, ne-eqb, eqb-false}
+use Rattle.rules.specs.Code as Code
 use Rattle.rules.specs.Store.{Name, blocks, objectNamed}
 use Rattle.rules.specs.Refusals.{_when_, first}
 use Rattle.rules.proofs.Tests.{none2}
@@ -47,11 +48,11 @@ module _ (l : List ℕ) (n : ℕ) where
 -- ---- the first that is met
 
 module _ (b l w : List ℕ) (name : Name) (size : ℕ) where
-  pub stop-name : objectNamed (view b l w) name ≢ 0 → makeStop b l w name size ≡ 12
+  pub stop-name : objectNamed (view b l w) name ≢ 0 → makeStop b l w name size ≡ Code.taken
   unfolding makeStop first _when_
   stop-name h = rw (ne-eqb (objectNamed (view b l w) name) 0 h, first)
 
-  pub stop-space : objectNamed (view b l w) name ≡ 0 → noSpace l (blocks size) ≡ true → makeStop b l w name size ≡ 13
+  pub stop-space : objectNamed (view b l w) name ≡ 0 → noSpace l (blocks size) ≡ true → makeStop b l w name size ≡ Code.noSpace
   unfolding makeStop first _when_
   stop-space z h = rw (eq-eqb (objectNamed (view b l w) name) 0 z, h, first)
 
@@ -61,7 +62,7 @@ module _ (b l w : List ℕ) (name : Name) (size : ℕ) where
 
 -- ---- the record's links, where its next one is read first
 
-pub links-recorded : (l : List ℕ) (o serial size : ℕ) → ObjectSlot o
+pub links-recorded : (l : List ℕ) (o serial size i : ℕ) → ObjectSlot o
     → set
     (set
     (set
@@ -75,7 +76,7 @@ pub links-recorded : (l : List ℕ) (o serial size : ℕ) → ObjectSlot o
     (Layout.SIZE + o)
     size)
     (Layout.MASTER + o)
-    (freeCap l)
-    ≡ recordLinks l o serial size
+    i
+    ≡ recordLinks l o serial size i
 unfolding recordLinks
-links-recorded l o serial size s = rw (field-in 64 Layout.«NEXT_OBJECT» l o (s .low) (s .high))
+links-recorded l o serial size i s = rw (field-in 64 Layout.«NEXT_OBJECT» l o (s .low) (s .high))

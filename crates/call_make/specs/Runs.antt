@@ -6,6 +6,8 @@ use mathlib.Core.Bool.{Bool, not, _||_}
 use mathlib.Core.List.{List, [], _∷_}
 use lib.Dec.{eqb}
 use lib.ListN.{length, getD, set}
+use Rattle.rules.specs.Code as Code
+use Rattle.rules.specs.Limit as Limit
 use Rattle.rules.specs.Store.{Name, Password, Cap, blocks, objectNamed}
 use Rattle.rules.specs.Refusals.{_when_, first}
 use Rattle.layout.specs.Layout as Layout
@@ -31,8 +33,8 @@ noSpace l n = eqb (freeObject l) 0 || eqb (freeCap l) 0 || tooFew l n
 
 unfoldable pub makeStop : List ℕ → List ℕ → List ℕ → Name → ℕ → ℕ
 makeStop b l w name size = first
-    (12 when not (eqb (objectNamed (view b l w) name) 0)
-    ∷ 13 when noSpace l (blocks size)
+    (Code.taken when not (eqb (objectNamed (view b l w) name) 0)
+    ∷ Code.noSpace when noSpace l (blocks size)
     ∷ [])
 
 -- ---- the object's record
@@ -44,12 +46,12 @@ recordBytes b o volume flag =
     let marked : List ℕ = set (set named (Layout.SUSPENDED + o) 1) (Layout.WAITING + o) 0 in
     set (set marked (Layout.TERMINATED + o) 0) (Layout.COUNT + o) 0
 
--- o leaves the chain of free objects for that of objects; its master is to be the first free capability
-unfoldable pub recordLinks : List ℕ → ℕ → ℕ → ℕ → List ℕ
-recordLinks l o serial size =
+-- o leaves the chain of free objects for that of objects; its master is to be in slot i
+unfoldable pub recordLinks : List ℕ → ℕ → ℕ → ℕ → ℕ → List ℕ
+recordLinks l o serial size i =
     let popped : List ℕ = set l Layout.«FREE_OBJECTS» (nextObjectOf l o) in
     let linked : List ℕ = set (set popped (Layout.«NEXT_OBJECT» + o) (getD l Layout.OBJECTS 0)) Layout.OBJECTS o in
-    set (set (set linked (Layout.SERIAL + o) serial) (Layout.SIZE + o) size) (Layout.MASTER + o) (freeCap l)
+    set (set (set linked (Layout.SERIAL + o) serial) (Layout.SIZE + o) size) (Layout.MASTER + o) i
 
 -- its cash and lockword 0
 unfoldable pub recordWords : List ℕ → ℕ → List ℕ
@@ -70,12 +72,12 @@ masterCap o size rights password = record {
 unfoldable pub madeBytes : List ℕ → List ℕ → ℕ → ℕ → ℕ → ℕ → List ℕ
 madeBytes b l o n volume flag = recordBytes (clearedBytes b l n) o volume flag
 
-unfoldable pub objectLinks : List ℕ → ℕ → ℕ → ℕ → ℕ → List ℕ
-objectLinks l o n serial size = recordLinks (takenLinks l o n) o serial size
+unfoldable pub objectLinks : List ℕ → ℕ → ℕ → ℕ → ℕ → ℕ → List ℕ
+objectLinks l o n serial size i = recordLinks (takenLinks l o n) o serial size i
 
 -- x, the master, takes the first free capability, with no sibling
 unfoldable pub madeLinks : List ℕ → ℕ → ℕ → ℕ → ℕ → Cap → List ℕ
-madeLinks l o n serial size x = newLinks (objectLinks l o n serial size) (freeCap l) x 0
+madeLinks l o n serial size x = newLinks (objectLinks l o n serial size (freeCap l)) (freeCap l) x 0
 
 -- with moneyword 0
 unfoldable pub madeWords : List ℕ → List ℕ → ℕ → Cap → List ℕ
@@ -99,15 +101,15 @@ makeRun b l w name size flag rights drawn = settled (makeStop b l w name size) b
 -- ---- what the code asks
 
 pub record Arguments (name : Name) (size flag rights : ℕ) : Type 0 where
-  pub volume : name .volume ≤ 3
-  pub serial : name .serial ≤ 65535
-  pub size-fits : size ≤ 8192
+  pub volume : name .volume ≤ Limit.volume
+  pub serial : name .serial ≤ Limit.serial
+  pub size-fits : size ≤ Limit.size
   pub flag-fits : flag ≤ 1
-  pub rights-fit : rights ≤ 8191
+  pub rights-fit : rights ≤ Limit.rights
 
 pub record MasterAsks (o rights : ℕ) : Type 0 where
   pub slot : ObjectSlot o
-  pub rights-fit : rights ≤ 8191
+  pub rights-fit : rights ≤ Limit.rights
 
 -- r is the master of object o, to be made with no sibling
 pub record IsMaster (o size rights : ℕ) (drawn : Password) (r : NewCap) : Type 0 where
@@ -118,7 +120,7 @@ pub record HoldAsks (b l : List ℕ) (o size : ℕ) : Type 0 where
   pub bytes : length b ≡ Layout.BYTES
   pub slot : ObjectSlot o
   pub enough : Enough l (blocks size)
-  pub size-fits : size ≤ 8192
+  pub size-fits : size ≤ Limit.size
 
 -- b′ and l′ are what is left of the slices b and l
 pub record Holds (b l : List ℕ) (o size : ℕ) (b′ l′ : List ℕ) : Type 0 where
@@ -128,14 +130,14 @@ pub record Holds (b l : List ℕ) (o size : ℕ) (b′ l′ : List ℕ) : Type 0
 pub record RecordAsks (b l w : List ℕ) (o : ℕ) (name : Name) (size flag : ℕ) : Type 0 where
   pub sized : Sized b l w
   pub slot : ObjectSlot o
-  pub volume : name .volume ≤ 3
-  pub serial : name .serial ≤ 65535
-  pub size-fits : size ≤ 8192
+  pub volume : name .volume ≤ Limit.volume
+  pub serial : name .serial ≤ Limit.serial
+  pub size-fits : size ≤ Limit.size
   pub flag-fits : flag ≤ 1
 
-pub record Records (b l w : List ℕ) (o : ℕ) (name : Name) (size flag : ℕ) (b′ l′ w′ : List ℕ) : Type 0 where
+pub record Records (b l w : List ℕ) (o : ℕ) (name : Name) (size flag master : ℕ) (b′ l′ w′ : List ℕ) : Type 0 where
   pub bytes : b′ ≡ recordBytes b o (name .volume) flag
-  pub links : l′ ≡ recordLinks l o (name .serial) size
+  pub links : l′ ≡ recordLinks l o (name .serial) size master
   pub words : w′ ≡ recordWords w o
 
 pub record PlaceAsks (b l w : List ℕ) (o : ℕ) (name : Name) (size flag rights : ℕ) : Type 0 where
@@ -153,7 +155,7 @@ pub record Places (b l w : List ℕ) (o : ℕ) (name : Name) (size flag rights :
 
 pub record MakeAsks (b l w : List ℕ) (name : Name) (size flag rights : ℕ) : Type 0 where
   pub sized : Sized b l w
-  pub object-high : freeObject l ≤ 64
-  pub cap-high : freeCap l ≤ 512
+  pub object-high : freeObject l ≤ Limit.objects
+  pub cap-high : freeCap l ≤ Limit.caps
   pub free : FreeChain l
   pub arguments : Arguments name size flag rights

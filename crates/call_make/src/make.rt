@@ -18,8 +18,11 @@ use call_steps::request::Name;
 use call_steps::request::Reply;
 use call_steps::request::Request;
 use call_steps::widen::slot;
+use layout::FREE_CAPS;
 use layout::FREE_OBJECTS;
 use values::blocks::blocks_of;
+use values::code::NO_SPACE;
+use values::code::TAKEN;
 use values::moneyword::Moneyword;
 use values::rights::Rights;
 use values::window::Window;
@@ -52,7 +55,7 @@ fn hold(bytes: &mut [u8], links: &mut [u16], o: usize, size: u32)
     take(links, o, n, last);
 }
 
-// Its record.
+// Its record, with the slot of its master.
 fn record(
     bytes: &mut [u8],
     links: &mut [u16],
@@ -61,13 +64,14 @@ fn record(
     name: Name,
     size: u32,
     flag: u32,
+    master: u16,
 )
     requires { ⌜ RecordAsks (now bytes) (now links) (now words) o (nameOf name) size flag ⌝ }
     ensures { λ _. ⌜ Records (now (bytes .entry)) (now (links .entry)) (now (words .entry)) o (nameOf name) size flag
-        (now (bytes .exit)) (now (links .exit)) (now (words .exit)) ⌝ }
+        master (now (bytes .exit)) (now (links .exit)) (now (words .exit)) ⌝ }
 {
     record_bytes(bytes, o, name.volume as u8, flag as u8);
-    record_links(links, o, name.serial as u16, size as u16);
+    record_links(links, o, name.serial as u16, size as u16, master);
     record_words(words, o);
 }
 
@@ -79,9 +83,10 @@ fn place(bytes: &mut [u8], links: &mut [u16], words: &mut [u32], o: usize, req: 
         (req .size) (req .flag) (req .rights) (passwordOf (req .drawn))
         (now (bytes .exit)) (now (links .exit)) (now (words .exit)) ⌝ }
 {
+    let free = links[FREE_CAPS];
     hold(bytes, links, o, req.size);
     let name = req.name;
-    record(bytes, links, words, o, name, req.size, req.flag);
+    record(bytes, links, words, o, name, req.size, req.flag, free);
     let drawn = req.drawn;
     let master = master_of(o, req.size, req.rights, drawn);
     new_cap(links, words, master, Moneyword(0));
@@ -98,12 +103,12 @@ pub fn make_obj(bytes: &mut [u8], links: &mut [u16], words: &mut [u32], req: Req
     let name = req.name;
     if find_object(bytes, links, name) == 0 {
         if no_space(links, blocks_of(req.size) as usize) {
-            return Reply::refused(13);
+            return Reply::refused(NO_SPACE);
         }
         let o = slot(links[FREE_OBJECTS]);
         place(bytes, links, words, o, req);
         let drawn = req.drawn;
         return Reply::hands_back(name, drawn);
     }
-    Reply::refused(12)
+    Reply::refused(TAKEN)
 }

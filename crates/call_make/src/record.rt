@@ -8,7 +8,6 @@ ghost use Rattle.call_make.specs.Runs.{recordBytes, recordLinks, recordW
 use layout::CASH;
 use layout::COUNT;
 use layout::FLAG;
-use layout::FREE_CAPS;
 use layout::FREE_OBJECTS;
 use layout::LOCK1;
 use layout::LOCK2;
@@ -34,14 +33,13 @@ pub(crate) fn record_bytes(bytes: &mut [u8], o: usize, volume: u8, flag: u8)
     bytes[COUNT + o] = 0;
 }
 
-// The slot leaves the chain of free objects for that of objects; the master is to be the first free capability.
-pub(crate) fn record_links(links: &mut [u16], o: usize, serial: u16, size: u16)
+// The slot leaves the chain of free objects for that of objects; its master is to be in slot `master`.
+pub(crate) fn record_links(links: &mut [u16], o: usize, serial: u16, size: u16, master: u16)
     requires { ⌜ length (now links) ≡ Layout.LINKS ⌝ ∗ ⌜ ObjectSlot o ⌝ }
-    ensures { λ _. ⌜ now (links .exit) ≡ recordLinks (now (links .entry)) o serial size ⌝ }
+    ensures { λ _. ⌜ now (links .exit) ≡ recordLinks (now (links .entry)) o serial size master ⌝ }
 {
     let next = links[NEXT_OBJECT + o];
     let first = links[OBJECTS];
-    let master = links[FREE_CAPS];
     links[FREE_OBJECTS] = next;
     links[NEXT_OBJECT + o] = first;
     links[OBJECTS] = o as u16;

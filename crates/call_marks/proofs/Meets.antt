@@ -17,9 +17,9 @@ use Rattle.rules.proofs.Tests.{by-bool}
 use Rattle.layout.specs.Layout as Layout
 use Rattle.layout.specs.Rows.{flagOf, ownerOf}
 use Rattle.layout.specs.View.{isSet, view}
-use Rattle.layout.specs.WellFormed.{WellFormed}
+use Rattle.layout.specs.WellFormed.{Plain}
 use Rattle.layout.proofs.Shown.{cap-object, cap-here, money-here, lock-here, cash-here, marks-here}
-use Rattle.call_steps.specs.Run.{Process, Held, Meets, over, Target}
+use Rattle.call_steps.specs.Run.{Process, Held, MeetsPlain, over, Target}
 use Rattle.call_marks.specs.Runs.{told, processStop, suspendedRun, lockedWords, lockRun, waitRun}
 use Rattle.call_marks.specs.Runs.{reviveStop, spentWords, movedWords, reviveRun, infoRun}
 use Rattle.call_marks.proofs.Stops.{process-data, revive-data}
@@ -27,21 +27,21 @@ use Rattle.call_steps.proofs.Holding.{target-of}
 use Rattle.call_marks.proofs.Targets.{target-process, process-is, process-shown, stop-is, unstopped}
 use Rattle.call_marks.proofs.Marked.{Marked, suspended-marked, waiting-marked, terminated-marked}
 use Rattle.call_marks.proofs.Amounts.{spent-stored, earned-stored, lock-stored}
-use Rattle.call_steps.proofs.Meeting.{none, takes, Does, meets-done, meets-settled}
+use Rattle.call_steps.proofs.Meeting.{none, takes, DoesPlain, plain-done, plain-settled}
 
-module _ {b l w : List ℕ} (f : WellFormed b l w) (c : Call) (me k : ℕ) where
+module _ {b l w : List ℕ} (f : Plain b l w) (c : Call) (me k : ℕ) where
   abbrev s : State
   s = view b l w
 
   -- stores that mean what the call does, with the links as they were
   does-over : (o : Op) (b′ w′ : List ℕ) (r : State) → does s c me k none o ≡ done r → Marked b′ l w′ r
-      → length w′ ≡ Layout.WORDS → Does s c me k o (over 0 b′ l w′)
+      → length w′ ≡ Layout.WORDS → DoesPlain l s c me k o (over 0 b′ l w′)
   unfolding over done
   does-over o b′ w′ r e m z = record {
     rules = e ∙ ap done (sym (m .shows));
     sized = record { bytes = m .sized; links = f .sized .links; words = z };
     cells = m .cells;
-    shape = f .shape;
+    links = refl;
   }
 
   -- ---- suspend, resume: the mark's value v, 1 or 0
@@ -49,37 +49,37 @@ module _ {b l w : List ℕ} (f : WellFormed b l w) (c : Call) (me k : ℕ) where
   suspended-meets : (o : Op) (v : ℕ) → v ≤ 1 → Held l k → takes (op (c .number)) ≡ false
       → refuses s c me k o ≡ processRefuses s c me k
       → does s c me k none o ≡ done (setSuspended s (s .cap k .object) (isSet v))
-      → Meets s c me k o (suspendedRun b l w k v)
+      → MeetsPlain l s c me k o (suspendedRun b l w k v)
   unfolding suspendedRun
   suspended-meets o v one h free e d =
-      let T = target-of (f .shape) h in
-      meets-settled b l w c me k o free f (processStop b l k) _ (stop-is b l w k T c me ∙ ap first (sym e)) (λ z.
+      let T = target-of f h in
+      plain-settled b l w c me k o free f (processStop b l k) _ (stop-is b l w k T c me ∙ ap first (sym e)) (λ z.
       does-over o _ w _ (d ∙ ap (λ i. done (setSuspended s i (isSet v))) (cap-object b l w k))
       (suspended-marked (unstopped b l w k T _ (process-data b l k) z) v (f .sized .bytes) w (f .cells) one)
       (f .sized .words))
 
-  pub suspend-meets : Held l k → op (c .number) ≡ suspend → Meets s c me k suspend (suspendedRun b l w k 1)
+  pub suspend-meets : Held l k → op (c .number) ≡ suspend → MeetsPlain l s c me k suspend (suspendedRun b l w k 1)
   unfolding takes refuses does suspendDoes isSet
   suspend-meets h e = suspended-meets suspend 1 (omega arith) h (rw e refl) refl refl
 
-  pub resume-meets : Held l k → op (c .number) ≡ resume → Meets s c me k resume (suspendedRun b l w k 0)
+  pub resume-meets : Held l k → op (c .number) ≡ resume → MeetsPlain l s c me k resume (suspendedRun b l w k 0)
   unfolding takes refuses does resumeDoes isSet
   resume-meets h e = suspended-meets resume 0 (omega arith) h (rw e refl) refl refl
 
   -- ---- wait
 
-  pub wait-meets : Process b l me → op (c .number) ≡ wait → Meets s c me k wait (waitRun b l w me)
+  pub wait-meets : Process b l me → op (c .number) ≡ wait → MeetsPlain l s c me k wait (waitRun b l w me)
   unfolding takes refuses does waitDoes first waitRun isSet
-  wait-meets m e = meets-done b l w c me k wait (rw e refl) refl
+  wait-meets m e = plain-done b l w c me k wait (rw e refl) refl
       (does-over wait _ w _ refl (waiting-marked m 1 (f .sized .bytes) w (f .cells) (omega arith)) (f .sized .words))
 
   -- ---- apply_lock
 
-  pub apply-lock-meets : Held l k → op (c .number) ≡ applyLock → Meets s c me k applyLock (lockRun b l w k (c .lock))
+  pub apply-lock-meets : Held l k → op (c .number) ≡ applyLock → MeetsPlain l s c me k applyLock (lockRun b l w k (c .lock))
   unfolding takes refuses does applyLockDoes lockRun
   apply-lock-meets h e =
-      let T = target-of (f .shape) h in
-      meets-settled b l w c me k applyLock (rw e refl) f (processStop b l k) _ (stop-is b l w k T c me) (λ z.
+      let T = target-of f h in
+      plain-settled b l w c me k applyLock (rw e refl) f (processStop b l k) _ (stop-is b l w k T c me) (λ z.
       let P = unstopped b l w k T _ (process-data b l k) z in
       does-over applyLock b (lockedWords w (ownerOf l k) (c .lock)) _ refl (record {
         shows = lock-stored P w (f .sized .words) _ _
@@ -113,11 +113,11 @@ module _ {b l w : List ℕ} (f : WellFormed b l w) (c : Call) (me k : ℕ) where
         ∙ ap (λ r. earn r (ownerOf l k) (c .sum)) (spent-stored m w (f .sized .words) (c .sum))
 
   pub revive-meets : Process b l me → Held l k → op (c .number) ≡ revive
-      → Meets s c me k revive (reviveRun b l w me k (c .sum))
+      → MeetsPlain l s c me k revive (reviveRun b l w me k (c .sum))
   unfolding takes refuses does reviveDoes reviveRun movedWords isSet
   revive-meets m h e =
-      let T = target-of (f .shape) h in
-      meets-settled b l w c me k revive (rw e refl) f (reviveStop b l w me k (c .sum)) _ (revive-stop m T) (λ z.
+      let T = target-of f h in
+      plain-settled b l w c me k revive (rw e refl) f (reviveStop b l w me k (c .sum)) _ (revive-stop m T) (λ z.
       let P = unstopped b l w k T _ (revive-data b l k w me (c .sum)) z in
       let w′ : List ℕ = movedWords w me (ownerOf l k) (c .sum) in
       does-over revive _ w′ _
@@ -127,11 +127,11 @@ module _ {b l w : List ℕ} (f : WellFormed b l w) (c : Call) (me k : ℕ) where
 
   -- ---- cap_info
 
-  pub cap-info-meets : Held l k → op (c .number) ≡ capInfo → Meets s c me k capInfo (infoRun b l w k)
+  pub cap-info-meets : Held l k → op (c .number) ≡ capInfo → MeetsPlain l s c me k capInfo (infoRun b l w k)
   unfolding takes refuses does capInfoDoes first infoRun told tells
-  cap-info-meets h e = meets-done b l w c me k capInfo (rw e refl) refl (record {
+  cap-info-meets h e = plain-done b l w c me k capInfo (rw e refl) refl (record {
     rules = rw (cap-here b l w k (h .live), money-here b l w k (h .live));
     sized = f .sized;
     cells = f .cells;
-    shape = f .shape;
+    links = refl;
   })

@@ -1,9 +1,10 @@
--- What the code asks follows from well-formedness. Beside lengths and slots, a window's ends are in order, and the cash
+-- What the code asks is so in a well-formed store, whatever the links of its trees. Beside lengths and slots, a window's ends are in order, and the cash
 -- that a sum is moved to has room for it, since the money total stays.
 use Prim.Native.Nat.{ℕ, _+_, _≤_}
 use mathlib.Core.Path.{_≡_, ap, _∙_}
 use mathlib.Core.List.{List}
 use native.Mathlib.Omega.{arith}
+use Rattle.rules.specs.Limit as Limit
 use Rattle.rules.specs.Store.{State, allCash, moneyIn}
 use Rattle.rules.specs.Valid.{Valid}
 use Rattle.rules.specs.Update.{withCash}
@@ -14,7 +15,7 @@ use Rattle.rules.proofs.Presenting as Rules
 use Rattle.rules.proofs.Keeping.{sound-spend, total-spend, total-earn}
 use Rattle.layout.specs.Rows.{flagOf, ownerOf}
 use Rattle.layout.specs.View.{view}
-use Rattle.layout.specs.WellFormed.{WellFormed}
+use Rattle.layout.specs.WellFormed.{Plain}
 use Rattle.layout.proofs.Shown.{process-is, object-shown, cash-here, set-yes}
 use Rattle.layout.proofs.Asked.{fields}
 use Rattle.call_steps.specs.Run.{Process, Held, Target}
@@ -36,7 +37,7 @@ rules-process {b} {l} {o} w p = record {
 
 -- a sum that is moved from cash that has it
 moved-fits : (s : State) → Valid s → (me o n : ℕ) → Rules.Process (s .object) me → Rules.Process (s .object) o
-    → 1 ≤ o → o ≤ 64 → n ≤ s .cash me → spend s me n .cash o + n ≤ 4294967295
+    → 1 ≤ o → o ≤ 64 → n ≤ s .cash me → spend s me n .cash o + n ≤ Limit.word
 unfolding spend earn withCash
 moved-fits s val me o n m p low high h =
     let S = sound-of (val .formed) in
@@ -51,7 +52,7 @@ moved-fits s val me o n m p low high h =
       here,
     )
 
-revive-affords : {b l w : List ℕ} {me k : ℕ} → WellFormed b l w → Process b l me → Target l k
+revive-affords : {b l w : List ℕ} {me k : ℕ} → Plain b l w → Process b l me → Target l k
     → (sum : ℕ) → Affords b l w me k sum
 revive-affords {b} {l} {w} {me} {k} f m T sum flag enough =
     let P : Process b l (ownerOf l k) = target-process b l w k T (set-yes (flagOf b (ownerOf l k)) flag) in
@@ -63,19 +64,19 @@ revive-affords {b} {l} {w} {me} {k} f m T sum flag enough =
 
 -- ---- call by call
 
-module _ {b l w : List ℕ} {k : ℕ} (f : WellFormed b l w) (h : Held l k) where
+module _ {b l w : List ℕ} {k : ℕ} (f : Plain b l w) (h : Held l k) where
   pub mark-asks : MarkAsks b l k
-  mark-asks = record { bytes = f .sized .bytes; links = f .sized .links; target = target-of (f .shape) h }
+  mark-asks = record { bytes = f .sized .bytes; links = f .sized .links; target = target-of f h }
 
   pub lock-asks : LockAsks b l w k
-  lock-asks = record { sized = f .sized; target = target-of (f .shape) h }
+  lock-asks = record { sized = f .sized; target = target-of f h }
 
   pub revive-asks : {me : ℕ} → Process b l me → (sum : ℕ) → ReviveAsks b l w me k sum
   revive-asks m sum = record {
     sized = f .sized;
     caller = record { low = m .low; high = m .high };
-    target = target-of (f .shape) h;
-    affords = revive-affords f m (target-of (f .shape) h) sum;
+    target = target-of f h;
+    affords = revive-affords f m (target-of f h) sum;
   }
 
   pub info-asks : InfoAsks w k

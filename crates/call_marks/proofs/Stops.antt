@@ -8,6 +8,8 @@ use native.Mathlib.Omega.{arith}
 use lib.Dec.{eqb, ltb}
 use lib.ListN.{getD, set}
 use borrow.Author.Tests.{ltb-false}
+use Rattle.rules.specs.Code as Code
+use Rattle.rules.specs.Limit as Limit
 use Rattle.rules.specs.Refusals.{_when_, first}
 use Rattle.values.specs.Words.{lockwordOf, xorOf}
 use Rattle.layout.specs.Layout as Layout
@@ -25,12 +27,12 @@ use Rattle.call_marks.specs.Runs.{reviveStop, spentWords, movedWords, re
 -- ---- refusal 8
 
 module _ (b l : List ℕ) (k : ℕ) where
-  pub process-data : isSet (flagOf b (ownerOf l k)) ≡ false → processStop b l k ≡ 8
+  pub process-data : isSet (flagOf b (ownerOf l k)) ≡ false → processStop b l k ≡ Code.notProcess
   unfolding processStop first _when_
   process-data e = rw e
 
   pub revive-data : (w : List ℕ) (me sum : ℕ) → isSet (flagOf b (ownerOf l k)) ≡ false
-      → reviveStop b l w me k sum ≡ 8
+      → reviveStop b l w me k sum ≡ Code.notProcess
   unfolding reviveStop first _when_
   revive-data w me sum e = rw e
 
@@ -52,9 +54,9 @@ module _ {b l : List ℕ} {k o : ℕ} {p : Bool} (F : Found b l k o p) where
 
   -- ---- suspend, resume
 
-  pub suspended-met : p ≡ false → (w : List ℕ) (v : ℕ) → over 8 b l w ≡ suspendedRun b l w k v
+  pub suspended-met : p ≡ false → (w : List ℕ) (v : ℕ) → over Code.notProcess b l w ≡ suspendedRun b l w k v
   unfolding suspendedRun
-  suspended-met e w v = stopped b l w _ 8 (process-data b l k (flag-is e)) (omega arith)
+  suspended-met e w v = stopped b l w _ Code.notProcess (process-data b l k (flag-is e)) (omega arith)
 
   pub suspended-done : p ≡ true → (w : List ℕ) (v : ℕ)
       → over 0 (set b (Layout.SUSPENDED + o) v) l w ≡ suspendedRun b l w k v
@@ -64,9 +66,9 @@ module _ {b l : List ℕ} {k o : ℕ} {p : Bool} (F : Found b l k o p) where
   -- ---- apply_lock
 
   module _ (w x : List ℕ) where
-    pub lock-met : p ≡ false → over 8 b l w ≡ lockRun b l w k (lockwordOf x)
+    pub lock-met : p ≡ false → over Code.notProcess b l w ≡ lockRun b l w k (lockwordOf x)
     unfolding lockRun
-    lock-met e = stopped b l w _ 8 (process-data b l k (flag-is e)) (omega arith)
+    lock-met e = stopped b l w _ Code.notProcess (process-data b l k (flag-is e)) (omega arith)
 
     pub lock-done : p ≡ true → Target l k → (y : List ℕ)
         → y ≡ xorOf (getD w (Layout.LOCK1 + o) 0 ∷ getD w (Layout.LOCK2 + o) 0 ∷ []) x
@@ -95,7 +97,7 @@ module _ {b l w : List ℕ} {me k sum o : ℕ} {p : Bool} (R : Reviving b l w me
   -- with its four tests as they came out, or as they stand
   revive-stop : {f t z q : Bool} → p ≡ f → isSet (getD b (Layout.TERMINATED + o) 0) ≡ t → eqb sum 0 ≡ z
       → ltb (getD w (Layout.CASH + me) 0) sum ≡ q
-      → reviveStop b l w me k sum ≡ first (8 when not f ∷ 16 when (not t || z) ∷ 9 when q ∷ [])
+      → reviveStop b l w me k sum ≡ first (Code.notProcess when not f ∷ Code.notRevivable when (not t || z) ∷ Code.tooLittle when q ∷ [])
   unfolding reviveStop
   revive-stop f t z q =
       let s = R .target .slot in
@@ -112,7 +114,7 @@ module _ {b l w : List ℕ} {me k sum o : ℕ} {p : Bool} (R : Reviving b l w me
 
   pub revive-met : (n : ℕ) {f t z q : Bool} → p ≡ f → isSet (getD b (Layout.TERMINATED + o) 0) ≡ t → eqb sum 0 ≡ z
       → ltb (getD w (Layout.CASH + me) 0) sum ≡ q
-      → first (8 when not f ∷ 16 when (not t || z) ∷ 9 when q ∷ []) ≡ n → n ≢ 0
+      → first (Code.notProcess when not f ∷ Code.notRevivable when (not t || z) ∷ Code.tooLittle when q ∷ []) ≡ n → n ≢ 0
       → over n b l w ≡ reviveRun b l w me k sum
   unfolding reviveRun
   revive-met n f t z q e ne = stopped b l w _ n (revive-stop f t z q ∙ e) ne
@@ -136,7 +138,7 @@ module _ (w : List ℕ) (me o sum left : ℕ) (M : ObjectSlot me) (O : ObjectSlo
   spent-is : set w (Layout.CASH + me) left ≡ spentWords w me sum
   spent-is = rw (e, field-in 64 Layout.CASH w me (M .low) (M .high))
 
-  pub moved-room : Room w me o sum → getD (set w (Layout.CASH + me) left) (Layout.CASH + o) 0 + sum ≤ 4294967295
+  pub moved-room : Room w me o sum → getD (set w (Layout.CASH + me) left) (Layout.CASH + o) 0 + sum ≤ Limit.word
   moved-room r = rw (spent-is, ← field-in 64 Layout.CASH (spentWords w me sum) o (O .low) (O .high)) r
 
   pub moved-is : set (set w (Layout.CASH + me) left) (Layout.CASH + o)

@@ -5,6 +5,7 @@ use mathlib.Core.Path.{_≡_}
 use mathlib.Core.Bool.{true, false}
 use mathlib.Core.List.{List}
 use native.Mathlib.Omega.{arith}
+use Rattle.rules.specs.Code as Code
 use Rattle.rules.specs.Call.{Call}
 use Rattle.rules.specs.Refusals.{first}
 use Rattle.rules.specs.Calls.{processRefuses}
@@ -41,6 +42,7 @@ module _ (b l w : List ℕ) (k : ℕ) (T : Target l k) where
   stop-is c me = rw process-is
 
   -- a call that data stops with 8, and that is not stopped
-  pub unstopped : (n : ℕ) → (isSet (flagOf b (ownerOf l k)) ≡ false → n ≡ 8) → n ≡ 0 → Process b l (ownerOf l k)
+  pub unstopped : (n : ℕ) → (isSet (flagOf b (ownerOf l k)) ≡ false → n ≡ Code.notProcess) → n ≡ 0
+      → Process b l (ownerOf l k)
   unstopped n met z =
       by-bool (isSet (flagOf b (ownerOf l k))) target-process (λ e. absurd (omega (arith, met e)))

@@ -8,6 +8,8 @@ use mathlib.Core.List.{List, [], _∷_}
 use lib.Dec.{eqb, ltb}
 use lib.ListN.{length, set}
 use lib.Bits.{bitXor}
+use Rattle.rules.specs.Code as Code
+use Rattle.rules.specs.Limit as Limit
 use Rattle.rules.specs.Store.{Lockword}
 use Rattle.rules.specs.Call.{tells}
 use Rattle.rules.specs.Refusals.{_when_, first}
@@ -33,7 +35,7 @@ told length moneyword b l w = record {
 -- ---- suspend, resume, apply_lock: 8 not a process
 
 unfoldable pub processStop : List ℕ → List ℕ → ℕ → ℕ
-processStop b l k = first (8 when not (isSet (flagOf b (ownerOf l k))) ∷ [])
+processStop b l k = first (Code.notProcess when not (isSet (flagOf b (ownerOf l k))) ∷ [])
 
 -- the mark is 1 for suspend, 0 for resume
 unfoldable pub suspendedRun : List ℕ → List ℕ → List ℕ → ℕ → ℕ → Ran
@@ -57,9 +59,9 @@ waitRun b l w me = over 0 (set b (Layout.WAITING + me) 1) l w
 
 unfoldable pub reviveStop : List ℕ → List ℕ → List ℕ → ℕ → ℕ → ℕ → ℕ
 reviveStop b l w me k sum = first
-    (8 when not (isSet (flagOf b (ownerOf l k)))
-    ∷ 16 when (not (isSet (terminatedOf b (ownerOf l k))) || eqb sum 0)
-    ∷ 9 when ltb (cashOf w me) sum
+    (Code.notProcess when not (isSet (flagOf b (ownerOf l k)))
+    ∷ Code.notRevivable when (not (isSet (terminatedOf b (ownerOf l k))) || eqb sum 0)
+    ∷ Code.tooLittle when ltb (cashOf w me) sum
     ∷ [])
 
 abbrev pub spentWords : List ℕ → ℕ → ℕ → List ℕ
@@ -94,7 +96,7 @@ pub record LockAsks (b l w : List ℕ) (k : ℕ) : Type 0 where
 
 -- the cash at slot o has room for the sum once it is taken from that at slot me
 abbrev pub Room : List ℕ → ℕ → ℕ → ℕ → Type 0
-Room w me o sum = cashOf (spentWords w me sum) o + sum ≤ 4294967295
+Room w me o sum = cashOf (spentWords w me sum) o + sum ≤ Limit.word
 
 -- so it is where the target is a process and the caller has the sum
 abbrev pub Affords : List ℕ → List ℕ → List ℕ → ℕ → ℕ → ℕ → Type 0
@@ -110,5 +112,5 @@ pub record ReviveAsks (b l w : List ℕ) (me k sum : ℕ) : Type 0 where
 pub record InfoAsks (w : List ℕ) (k : ℕ) : Type 0 where
   pub words : length w ≡ Layout.WORDS
   pub low : 1 ≤ k
-  pub high : k ≤ 512
+  pub high : k ≤ Limit.caps
   pub ordered : startOf w k ≤ endOf w k

@@ -7,6 +7,8 @@ use crate::process::is_process;
 use call_steps::target::target;
 use layout::LOCK1;
 use layout::LOCK2;
+use values::code::DONE;
+use values::code::NOT_PROCESS;
 use values::password::xor_words;
 
 // The lockword of the object that capability k is for.
@@ -22,7 +24,7 @@ pub fn apply_lock(bytes: &[u8], links: &[u16], words: &mut [u32], k: usize, lock
         let x = xor_words([first, second], lock);
         words[LOCK1 + o] = x[0];
         words[LOCK2 + o] = x[1];
-        return 0;
+        return DONE;
     }
-    8
+    NOT_PROCESS
 }

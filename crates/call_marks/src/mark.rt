@@ -3,6 +3,7 @@ ghost use Prim.Native.Nat.{ℕ, _≤_};
 ghost use mathlib.Core.Path.{_≡_};
 ghost use mathlib.Core.List.{List};
 ghost use lib.ListN.{length};
+ghost use Rattle.rules.specs.Limit as Limit;
 ghost use Rattle.layout.specs.Layout as Layout;
 ghost use Rattle.call_steps.specs.Run.{over};
 ghost use Rattle.call_marks.specs.Runs.{MarkAsks, suspendedRun, waitRun};
@@ -10,6 +11,8 @@ use crate::process::is_process;
 use call_steps::target::target;
 use layout::SUSPENDED;
 use layout::WAITING;
+use values::code::DONE;
+use values::code::NOT_PROCESS;
 
 // The suspended mark of the object that capability k is for, 1 set or 0 clear.
 fn set_suspended(bytes: &mut [u8], links: &[u16], k: usize, mark: u8) -> u32
@@ -20,9 +23,9 @@ fn set_suspended(bytes: &mut [u8], links: &[u16], k: usize, mark: u8) -> u32
     let o = target(links, k);
     if is_process(bytes, o) {
         bytes[SUSPENDED + o] = mark;
-        return 0;
+        return DONE;
     }
-    8
+    NOT_PROCESS
 }
 
 pub fn suspend(bytes: &mut [u8], links: &[u16], k: usize) -> u32
@@ -43,9 +46,9 @@ pub fn resume(bytes: &mut [u8], links: &[u16], k: usize) -> u32
 
 // The waiting mark of the caller, in slot me.
 pub fn wait(bytes: &mut [u8], me: usize) -> u32
-    requires { ⌜ length (now bytes) ≡ Layout.BYTES ⌝ ∗ ⌜ me ≤ 64 ⌝ }
+    requires { ⌜ length (now bytes) ≡ Layout.BYTES ⌝ ∗ ⌜ me ≤ Limit.objects ⌝ }
     ensures { λ r. ⌜ ((l w : List ℕ) → over r (now (bytes .exit)) l w ≡ waitRun (now (bytes .entry)) l w me) ⌝ }
 {
     bytes[WAITING + me] = 1;
-    0
+    DONE
 }

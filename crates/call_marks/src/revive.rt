@@ -11,6 +11,10 @@ use call_steps::target::target;
 use layout::CASH;
 use layout::TERMINATED;
 use values::cash::Cash;
+use values::code::DONE;
+use values::code::NOT_PROCESS;
+use values::code::NOT_REVIVABLE;
+use values::code::TOO_LITTLE;
 
 // The sum moves from the cash at slot me to that at slot o: first taken, then added to what that left.
 fn move_cash(words: &mut [u32], me: usize, o: usize, sum: u32)
@@ -39,17 +43,17 @@ pub fn revive(
     let o = target(links, k);
     if is_process(bytes, o) {
         if bytes[TERMINATED + o] == 0 {
-            return 16;
+            return NOT_REVIVABLE;
         }
         if sum == 0 {
-            return 16;
+            return NOT_REVIVABLE;
         }
         if Cash(words[CASH + me]).below(sum) {
-            return 9;
+            return TOO_LITTLE;
         }
         move_cash(words, me, o, sum);
         bytes[TERMINATED + o] = 0;
-        return 0;
+        return DONE;
     }
-    8
+    NOT_PROCESS
 }

@@ -1,6 +1,6 @@
 -- 01, "withdraw" and "deposit": the runs of the two calls on a well-formed store are what the rules give.
 use Prim.Native.Nat.{ℕ, _+_, _-_}
-use mathlib.Core.Path.{_≡_, sym, ap, _∙_, subst}
+use mathlib.Core.Path.{_≡_, refl, sym, ap, _∙_, subst}
 use mathlib.Core.List.{List, [], _∷_}
 use lib.Dec.{ltb}
 use lib.ListN.{length, set}
@@ -14,9 +14,9 @@ use Rattle.rules.specs.Calls.{withdrawRefuses, withdrawDoes, depositRefuses, de
 use Rattle.layout.specs.Layout as Layout
 use Rattle.layout.specs.Rows.{parentOf, cashOf}
 use Rattle.layout.specs.View.{view}
-use Rattle.layout.specs.WellFormed.{WellFormed}
-use Rattle.call_steps.specs.Run.{Process, Held, over, Meets}
-use Rattle.call_steps.proofs.Meeting.{none, takes, Does, meets-settled}
+use Rattle.layout.specs.WellFormed.{Plain}
+use Rattle.call_steps.specs.Run.{Process, Held, over, MeetsPlain}
+use Rattle.call_steps.proofs.Meeting.{none, takes, DoesPlain, plain-settled}
 use Rattle.call_purse.specs.declared.way.Way.{Way}
 use Rattle.call_purse.specs.declared.way.Way.the-variants.{Out, Into}
 use Rattle.call_purse.specs.Climb.{climbOf, stops, moves, climbMoved}
@@ -28,20 +28,20 @@ use Rattle.call_purse.proofs.Shifting.{view-after}
 
 -- ---- a call that changes only the words: after are those of a done one
 
-does-words : (b l w : List ℕ) → WellFormed b l w → (c : Call) (me k : ℕ) (o : Op) (after : List ℕ)
+does-words : (b l w : List ℕ) → Plain b l w → (c : Call) (me k : ℕ) (o : Op) (after : List ℕ)
     → does (view b l w) c me k none o ≡ done (view b l after) → length after ≡ length w
-    → Does (view b l w) c me k o (over 0 b l after)
+    → DoesPlain l (view b l w) c me k o (over 0 b l after)
 unfolding over done
 does-words b l w g c me k o after made long = record {
   rules = made;
   sized = record { bytes = g .sized .bytes; links = g .sized .links; words = long ∙ g .sized .words };
   cells = g .cells;
-  shape = g .shape;
+  links = refl;
 }
 
 -- ---- the two calls
 
-module _ (b l w : List ℕ) (g : WellFormed b l w) (me k : ℕ) (caller : Process b l me) (held : Held l k) where
+module _ (b l w : List ℕ) (g : Plain b l w) (me k : ℕ) (caller : Process b l me) (held : Held l k) where
   changed-by : (way : Way) (sum v : ℕ) → Changed (moves way sum) (climbOf l k) me v w
       (set (climbMoved way l w k sum) (Layout.CASH + me) v)
   unfolding climbMoved
@@ -77,15 +77,15 @@ module _ (b l w : List ℕ) (g : WellFormed b l w) (me k : ℕ) (caller : Proces
         ∙ sym (view-after b l w g me k caller held (moves Into (c .sum)) (cashOf w me - c .sum) _ t))
 
   pub withdraw-meets : (c : Call) (sum : ℕ) → op (c .number) ≡ withdraw → c .sum ≡ sum
-      → Meets (view b l w) c me k withdraw (withdrawRun b l w me k sum)
+      → MeetsPlain l (view b l w) c me k withdraw (withdrawRun b l w me k sum)
   unfolding withdrawRun withdrawn takes
-  withdraw-meets c sum call e = subst (λ x. Meets (view b l w) c me k withdraw (withdrawRun b l w me k x)) e
-      (meets-settled b l w c me k withdraw (ap takes call) g _ _ (sym (withdraw-refuses c)) (λ z.
+  withdraw-meets c sum call e = subst (λ x. MeetsPlain l (view b l w) c me k withdraw (withdrawRun b l w me k x)) e
+      (plain-settled b l w c me k withdraw (ap takes call) g _ _ (sym (withdraw-refuses c)) (λ z.
       does-words b l w g c me k withdraw _ (withdraw-does c) (changed-by Out (c .sum) (cashOf w me + c .sum) .long)))
 
   pub deposit-meets : (c : Call) (sum : ℕ) → op (c .number) ≡ deposit → c .sum ≡ sum
-      → Meets (view b l w) c me k deposit (depositRun b l w me k sum)
+      → MeetsPlain l (view b l w) c me k deposit (depositRun b l w me k sum)
   unfolding depositRun deposited takes
-  deposit-meets c sum call e = subst (λ x. Meets (view b l w) c me k deposit (depositRun b l w me k x)) e
-      (meets-settled b l w c me k deposit (ap takes call) g _ _ (sym (deposit-refuses c)) (λ z.
+  deposit-meets c sum call e = subst (λ x. MeetsPlain l (view b l w) c me k deposit (depositRun b l w me k x)) e
+      (plain-settled b l w c me k deposit (ap takes call) g _ _ (sym (deposit-refuses c)) (λ z.
       does-words b l w g c me k deposit _ (deposit-does c) (changed-by Into (c .sum) (cashOf w me - c .sum) .long)))

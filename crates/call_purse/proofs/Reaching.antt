@@ -1,20 +1,22 @@
 -- The climb of a living capability in a well-formed store: by the links as by the view's parents, through living
 -- capabilities alone, and within 512 steps. So the rules' tests of the climb are those of the words.
 use Prim.Native.Nat.{ℕ, _≤_}
-use mathlib.Core.Path.{_≡_, refl, sym, ap, _∙_}
+use mathlib.Core.Path.{_≡_, refl, sym, ap, subst}
 use mathlib.Core.Logic.{_≢_, inl, inr}
 use mathlib.Core.Bool.{Bool, true, false}
 use mathlib.Core.List.{List, [], _∷_}
 use Rattle.rules.specs.Slots.{any}
-use Rattle.rules.specs.Store.{path}
-use Rattle.rules.specs.Valid.{Climbs, top, step}
-use Rattle.rules.proofs.Climbs.{OneOf, climbs-frame, climbs-all, climb-few}
+use Rattle.rules.specs.Store.{State, path}
+use Rattle.rules.specs.Valid.{Lives, Climbs, top, step, Caps}
+use Rattle.rules.proofs.Climbs.{OneOf, climbs-frame, climb-few}
+use Rattle.rules.proofs.Forest.{path-climbs, path-lives}
+use Rattle.layout.specs.Layout as Layout
 use Rattle.layout.specs.Rows.{masterOf, flagOf, ownerOf, parentOf, cashOf, moneyOf}
 use Rattle.layout.specs.View.{view}
 use Rattle.layout.specs.Shape.{Chain}
-use Rattle.layout.specs.WellFormed.{WellFormed}
-use Rattle.layout.proofs.Shaped.{Shaped, shaped}
-use Rattle.layout.proofs.Shown.{process-yes, cash-here, parent-is, money-here}
+use Rattle.layout.specs.WellFormed.{Plain}
+use Rattle.layout.proofs.Field.{field-low, field-high}
+use Rattle.layout.proofs.Shown.{process-yes, cash-here, parent-is, money-here, cap-lives, cap-shown}
 use Rattle.call_steps.specs.Run.{Process, Held}
 use Rattle.call_purse.specs.declared.way.Way.{Way}
 use Rattle.call_purse.specs.Climb.{climbOf, stops, climbStops}
@@ -37,35 +39,36 @@ any-same t u (i ∷ xs) h =
 pub cash-is : (b l w : List ℕ) (me : ℕ) → Process b l me → view b l w .cash me ≡ cashOf w me
 cash-is b l w me h = cash-here b l w me (process-yes (masterOf l) (flagOf b) me (h .live) (h .flag))
 
-module _ (b l w : List ℕ) (g : WellFormed b l w) (k : ℕ) (held : Held l k) where
-  s : Shaped l
-  s = shaped l (g .shape)
+module _ (b l w : List ℕ) (g : Plain b l w) (k : ℕ) (held : Held l k) where
+  abbrev s : State
+  s = view b l w
 
-  ends : (xs : List ℕ) × Climbs (parentOf l) k xs
-  ends = s .cap k (held .live) .ends
+  abbrev caps : Caps (s .object) (s .cap)
+  caps = g .valid .formed .caps
 
-  alive : (j : ℕ) → OneOf j (ends .0) → ownerOf l j ≢ 0
-  alive = climbs-all (λ j. ownerOf l j ≢ 0) (λ j h. s .cap j h .parent-lives) (λ _. held .live) (ends .1)
+  shown : Lives (s .cap) k
+  shown = cap-shown b l w k (held .live)
 
-  slots : (j : ℕ) → OneOf j (ends .0) → (1 ≤ j) × (j ≤ 512)
-  slots j o = let h = s .cap j (alive j o) in (h .low, h .high)
+  alive : (j : ℕ) → OneOf j (path s k) → ownerOf l j ≢ 0
+  alive j o = cap-lives b l w j (path-lives s caps k j shown o)
 
-  climb-is : climbOf l k ≡ ends .0
-  climb-is = climb-few 512 (ends .1) slots
+  slots : (j : ℕ) → OneOf j (path s k) → (1 ≤ j) × (j ≤ 512)
+  slots j o = (field-low 512 Layout.OWNER l j (alive j o), field-high 512 Layout.OWNER l j (alive j o))
+
+  -- the rules' path is a climb by the links
+  ends : Climbs (parentOf l) k (path s k)
+  ends = climbs-frame {q = parentOf l} (Lives (s .cap))
+      (λ j h. (sym (parent-is b l w j (cap-lives b l w j h)), caps .parent j h)) (λ _. shown)
+      (path-climbs s caps k (λ _. shown))
+
+  pub path-is : path s k ≡ climbOf l k
+  path-is = sym (climb-few 512 ends slots)
 
   pub climb-chain : Chain 512 (parentOf l) k (climbOf l k)
-  climb-chain = rw climb-is (climbs-chain (ends .1) slots)
+  climb-chain = subst (Chain 512 (parentOf l) k) path-is (climbs-chain ends slots)
 
-  pub climb-lives : (j : ℕ) → OneOf j (climbOf l k) → ownerOf l j ≢ 0
-  climb-lives j o = alive j (rw climb-is at o)
-
-  -- the rules' path
-  pub path-is : path (view b l w) k ≡ climbOf l k
-  unfolding path
-  path-is =
-      let up = climbs-frame {q = λ j. view b l w .cap j .parent} (λ j. ownerOf l j ≢ 0)
-      (λ j h. (parent-is b l w j h, s .cap j h .parent-lives)) (λ _. held .live) (ends .1) in
-      climb-few 512 up slots ∙ sym climb-is
+  climb-lives : (j : ℕ) → OneOf j (climbOf l k) → ownerOf l j ≢ 0
+  climb-lives j o = alive j (subst (OneOf j) (sym path-is) o)
 
   pub stops-is : (way : Way) (sum : ℕ)
       → any (λ i. stops way sum (view b l w .money i)) (path (view b l w) k) ≡ climbStops way l w k sum

@@ -15,7 +15,7 @@ use Rattle.rules.proofs.Climbs.{any-none}
 use Rattle.rules.proofs.Forest.{descends-one, master-above, master-top, master-lives}
 use Rattle.layout.specs.Rows.{cashOf}
 use Rattle.layout.specs.View.{view}
-use Rattle.layout.specs.WellFormed.{WellFormed}
+use Rattle.layout.specs.WellFormed.{Plain}
 use Rattle.layout.proofs.Shown.{cap-shown}
 use Rattle.call_steps.specs.Run.{Process, Held}
 use Rattle.call_purse.specs.declared.way.Way.the-variants.{Out}
@@ -43,7 +43,7 @@ total-part s h me k low high alive =
     let is = pick-yes (eqb (s .cap m .parent) 0) (s .money m) 0 (eq-eqb _ 0 (master-top s caps k alive)) in
     omega (arith, sum-part 64 (λ o. s .cash o) me low high, sum-part 512 own m (here .some) (here .low), is, h .total)
 
-module _ (b l w : List ℕ) (g : WellFormed b l w) (me k : ℕ) (caller : Process b l me) (held : Held l k) where
+module _ (b l w : List ℕ) (g : Plain b l w) (me k : ℕ) (caller : Process b l me) (held : Held l k) where
   pub payable : Payable l w me k
   payable = record {
     climb = record { links = g .sized .links; words = g .sized .words; ends = climb-chain b l w g k held };

@@ -14,7 +14,7 @@ use Rattle.rules.proofs.Forest.{descends-lives}
 use Rattle.layout.specs.Layout as Layout
 use Rattle.layout.specs.Rows.{masterOf, flagOf, ownerOf, cashOf}
 use Rattle.layout.specs.View.{view}
-use Rattle.layout.specs.WellFormed.{WellFormed}
+use Rattle.layout.specs.WellFormed.{Plain}
 use Rattle.rules.proofs.Slots.{at-here, at-else}
 use Rattle.layout.proofs.Field.{at-is}
 use Rattle.layout.proofs.Shown.{process-yes, cash-here, cap-shown, cap-object, money-here, money-none}
@@ -24,7 +24,7 @@ use Rattle.call_purse.specs.Climb.{climbOf}
 use Rattle.call_purse.proofs.Storing.{Changed}
 use Rattle.call_purse.proofs.Reaching.{path-is}
 
-module _ (b l w : List ℕ) (g : WellFormed b l w) (me k : ℕ) (caller : Process b l me) (held : Held l k)
+module _ (b l w : List ℕ) (g : Plain b l w) (me k : ℕ) (caller : Process b l me) (held : Held l k)
     (f : ℕ → ℕ) (v : ℕ) (after : List ℕ) (t : Changed f (climbOf l k) me v w after) where
   -- the slots that k descends from are those of the climb
   descends-is : (i : ℕ) → descends (view b l w) k i ≡ mem i (climbOf l k)

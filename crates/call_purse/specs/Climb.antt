@@ -6,6 +6,7 @@ use mathlib.Core.Bool.{Bool}
 use mathlib.Core.List.{List, [], _∷_}
 use lib.Dec.{ltb}
 use lib.ListN.{length, set}
+use Rattle.rules.specs.Limit as Limit
 use Rattle.rules.specs.Slots.{any, climb}
 use Rattle.layout.specs.Layout as Layout
 use Rattle.layout.specs.Rows.{parentOf, moneyOf}
@@ -15,20 +16,20 @@ use Rattle.call_purse.specs.declared.way.Way.the-variants.{Out, Into}
 
 -- from k up to its master
 abbrev pub climbOf : List ℕ → ℕ → List ℕ
-climbOf l k = climb 512 (parentOf l) k
+climbOf l k = climb Limit.caps (parentOf l) k
 
 -- it ends within 512 steps, each slot of it one of 1 to 512; the slices have their lengths
 pub record Climbable (l w : List ℕ) (k : ℕ) : Type 0 where
   pub links : length l ≡ Layout.LINKS
   pub words : length w ≡ Layout.WORDS
-  pub ends : Chain 512 (parentOf l) k (climbOf l k)
+  pub ends : Chain Limit.caps (parentOf l) k (climbOf l k)
 
 -- ---- a moneyword m and a sum that goes out of it or into it
 
 -- it is below the sum, or would pass 4,294,967,295
 unfoldable pub stops : Way → ℕ → ℕ → Bool
 stops Out sum m = ltb m sum
-stops Into sum m = ltb 4294967295 (m + sum)
+stops Into sum m = ltb Limit.word (m + sum)
 
 unfoldable pub moves : Way → ℕ → ℕ → ℕ
 moves Out sum m = m - sum

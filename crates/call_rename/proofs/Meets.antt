@@ -108,7 +108,7 @@ module _ {b l w : List ℕ} (W : WellFormed b l w) (c : Call) (me k : ℕ) (H : 
         words = renamed-words W L (master-k z) c me;
       };
       cells = rows-cells W (pruned L .rows);
-      shape = pruned L .shape;
+      links = pruned L .shape;
     }
 
     pub rename-meets : Meets (view b l w) c me k renameObj (renameRun b l w k (c .drawn))

@@ -12,7 +12,6 @@ use Rattle.rules.specs.Store.{Name, State, sameName, noObject, objectNamed}
 use Rattle.rules.specs.Slots.{find}
 use Rattle.rules.specs.Refusals.{running}
 use Rattle.rules.proofs.Tests.{all2, by-eq}
-use Rattle.rules.proofs.Slots.{find-finds}
 use Rattle.layout.specs.Layout as Layout
 use Rattle.layout.specs.Rows.{field, masterOf, flagOf}
 use Rattle.layout.specs.View.{isSet, isProcess, view}
@@ -123,13 +122,7 @@ running-marks b l w o e =
     let p : isProcess (masterOf l) (flagOf b) o ≡ true = sym (process-is b l w o) ∙ e in
     rw (object-shown b l w o (process-lives (masterOf l) (flagOf b) o p), e, marks-here b l w o p)
 
--- ---- the object found lives, and its slot is an object's
-
-pub found-live : (s : State) (n : Name) → objectNamed s n ≢ 0 → s .object (objectNamed s n) .live ≡ true
-unfolding objectNamed
-found-live s n h =
-    let t : ℕ → Bool = λ o. s .object o .live && sameName (s .object o .name) n in
-    all2 (s .object (find 64 t) .live) (sameName (s .object (find 64 t) .name) n) (find-finds 64 t h .0) .0
+-- ---- the slot of the object found is an object's
 
 pub found-high : (s : State) (n : Name) → objectNamed s n ≤ 64
 found-high s n = rw (named-found s n) (find-le (named s n) 64)

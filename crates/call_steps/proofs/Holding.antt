@@ -14,18 +14,15 @@ use Rattle.rules.specs.Valid.{Lives, Formed}
 use Rattle.rules.specs.Call.{Capability}
 use Rattle.rules.specs.Password.{unlock, presented}
 use Rattle.rules.proofs.Tests.{by-eq, bool-same, both-true, all2, same-name, name-same, lives, does-live}
-use Rattle.rules.proofs.Presenting.{named, not-named, shown}
+use Rattle.rules.proofs.Presenting.{named, found-live, not-named, shown}
 use Rattle.layout.specs.Layout as Layout
 use Rattle.layout.specs.Rows.{field, ownerOf, masterOf, flagOf}
 use Rattle.layout.specs.View.{view}
-use Rattle.layout.specs.Shape.{Shape}
-use Rattle.layout.specs.WellFormed.{WellFormed}
+use Rattle.layout.specs.WellFormed.{WellFormed, Plain}
 use Rattle.layout.proofs.Field.{field-in, field-low, field-high}
-use Rattle.layout.proofs.Shaped.{shaped}
-use Rattle.layout.proofs.Shown.{process-yes, lock-here, cap-here, cap-object, cap-lives}
+use Rattle.layout.proofs.Shown.{process-yes, object-lives, lock-here, cap-here, cap-object, cap-lives, cap-shown}
 use Rattle.call_steps.specs.Run.{Process, Held, Target}
 use Rattle.call_steps.specs.Tests.{CapSlot, SameFrom, held, cellIs}
-use Rattle.call_steps.proofs.Callers.{found-live}
 use Rattle.call_steps.proofs.Finding.{same-among}
 
 -- the cell of a capability's slot
@@ -107,10 +104,17 @@ module _ (s : State) (G : Formed s) (me : ℕ) (x : Capability) where
 
 -- ---- what is presented is held
 
-pub target-of : {l : List ℕ} {k : ℕ} → Shape l → Held l k → Target l k
-target-of {l} {k} s h =
-    let c = shaped l s .cap k (h .live) in
-    record { held = h; slot = record { low = c .owner-low; high = c .owner-high }; live = c .owner-lives }
+pub target-of : {b l w : List ℕ} {k : ℕ} → Plain b l w → Held l k → Target l k
+target-of {b} {l} {w} {k} f h =
+    let o : ℕ = ownerOf l k in
+    let alive : masterOf l o ≢ 0 = object-lives b l w o
+    (ap (λ i. view b l w .object i .live) (sym (cap-object b l w k))
+    ∙ f .valid .formed .caps .live k (cap-shown b l w k (h .live)) .owned) in
+    record {
+      held = h;
+      slot = record { low = field-low 64 Layout.MASTER l o alive; high = field-high 64 Layout.MASTER l o alive };
+      live = alive;
+    }
 
 pub presented-held : (b l w : List ℕ) → WellFormed b l w → (me : ℕ) (x : Capability)
     → presented (view b l w) me x ≢ 0 → Held l (presented (view b l w) me x)

@@ -13,36 +13,35 @@ use Rattle.rules.specs.Calls.{liesIn, transferRefuses, refuses, does, readDoes,
 use Rattle.rules.proofs.Tests.{by-bool}
 use Rattle.layout.specs.Rows.{masterOf, sizeOf, firstBlockOf, ownerOf}
 use Rattle.layout.specs.View.{view}
-use Rattle.layout.specs.WellFormed.{WellFormed}
+use Rattle.layout.specs.WellFormed.{Plain}
 use Rattle.layout.proofs.Shown.{cap-object, cap-here, bytes-here}
-use Rattle.layout.proofs.Shaped.{shaped}
-use Rattle.call_steps.specs.Run.{Held, Meets, over}
-use Rattle.call_steps.proofs.Meeting.{takes, Does, meets-settled}
+use Rattle.call_steps.specs.Run.{Held, MeetsPlain, over}
+use Rattle.call_steps.proofs.Meeting.{takes, DoesPlain, plain-settled}
 use Rattle.call_transfer.specs.Runs.{range, window, inside, bytesIn, handed, copiedIn, readRun, writeRun}
 use Rattle.call_transfer.proofs.Stops.{inside-no, ends-in}
 use Rattle.call_transfer.proofs.Requires.{target-of}
 use Rattle.call_transfer.proofs.Stored.{replaced, after-length, write-stored, write-cells}
 
-module _ {b l w : List ℕ} (f : WellFormed b l w) (c : Call) (me k : ℕ) (h : Held l k) where
+module _ {b l w : List ℕ} (f : Plain b l w) (c : Call) (me k : ℕ) (h : Held l k) where
   abbrev s : State
   s = view b l w
 
   alive : masterOf l (ownerOf l k) ≢ 0
-  alive = shaped l (f .shape) .cap k (h .live) .owner-lives
+  alive = target-of f h .owned .live
 
   -- refusal 7 is met in the cells where it is met in the view
   stop-is : inside w k (c .range .start) (c .range .end) ≡ first (transferRefuses s c me k)
   unfolding inside transferRefuses
   stop-is = rw (cap-here b l w k (h .live))
 
-  pub read-meets : op (c .number) ≡ read → Meets s c me k read (readRun b l w k (c .range .start) (c .range .end))
+  pub read-meets : op (c .number) ≡ read → MeetsPlain l s c me k read (readRun b l w k (c .range .start) (c .range .end))
   unfolding takes refuses does readDoes readRun handed handsOver bytesIn
-  read-meets e = meets-settled b l w c me k read (rw e refl) f (inside w k (c .range .start) (c .range .end)) _ stop-is
+  read-meets e = plain-settled b l w c me k read (rw e refl) f (inside w k (c .range .start) (c .range .end)) _ stop-is
       (λ z. record {
         rules = rw (cap-object b l w k, bytes-here b l w _ alive);
         sized = f .sized;
         cells = f .cells;
-        shape = f .shape;
+        links = refl;
       })
 
   -- where it is not, the range ends within the object
@@ -62,12 +61,12 @@ module _ {b l w : List ℕ} (f : WellFormed b l w) (c : Call) (me k : ℕ) (h : 
     abbrev after : List ℕ
     after = copiedIn l (firstBlockOf l (ownerOf l k)) (c .range .start) (c .bytes) (length (c .bytes)) b
 
-    write-does : c .range .end ≤ sizeOf l (ownerOf l k) → Does s c me k write (over 0 after l w)
+    write-does : c .range .end ≤ sizeOf l (ownerOf l k) → DoesPlain l s c me k write (over 0 after l w)
     unfolding does writeDoes over done
     write-does fits =
         let o : ℕ = ownerOf l k in
         let room : c .range .start + length (c .bytes) ≤ sizeOf l o = omega arith in
-        let B = f .shape .blocks in
+        let B = f .blocks in
         record {
           rules = rw (cap-object b l w k, ← written-is (s .bytes o))
               (ap done (sym (write-stored b l (f .sized .bytes) B o alive (c .range .start) (c .bytes) room w)));
@@ -77,11 +76,11 @@ module _ {b l w : List ℕ} (f : WellFormed b l w) (c : Call) (me k : ℕ) (h : 
             words = f .sized .words;
           };
           cells = write-cells b l (f .sized .bytes) B o alive (c .range .start) (c .bytes) room (f .cells);
-          shape = f .shape;
+          links = refl;
         }
 
     pub write-meets : op (c .number) ≡ write
-        → Meets s c me k write (writeRun b l w k (c .range .start) (c .range .end) (c .bytes))
+        → MeetsPlain l s c me k write (writeRun b l w k (c .range .start) (c .range .end) (c .bytes))
     unfolding takes refuses writeRun
-    write-meets e = meets-settled b l w c me k write (rw e refl) f (inside w k (c .range .start) (c .range .end)) _
+    write-meets e = plain-settled b l w c me k write (rw e refl) f (inside w k (c .range .start) (c .range .end)) _
         stop-is (λ z. write-does (ends-within z))

@@ -1,45 +1,55 @@
--- What the code asks follows from well-formedness: the object's blocks are there, and a window ends within its object.
+-- What the code asks is so in a well-formed store, whatever the links of its trees: the object's blocks are there, and a
+-- window ends within its object.
 use Prim.Native.Nat.{ℕ, _-_, _≤_}
-use mathlib.Core.Path.{_≡_}
+use mathlib.Core.Path.{_≡_, sym, ap, _∙_}
 use mathlib.Core.Logic.{_≢_}
 use mathlib.Core.List.{List}
 use native.Mathlib.Omega.{arith}
 use lib.ListN.{length}
-use Rattle.rules.specs.Valid.{Climbs, top, step}
-use Rattle.rules.proofs.Tests.{by-eq}
-use Rattle.layout.specs.Layout as Layout
-use Rattle.layout.specs.Rows.{sizeOf, ownerOf, parentOf, endOf}
-use Rattle.layout.specs.Fields.{Fields}
-use Rattle.layout.specs.WellFormed.{WellFormed}
-use Rattle.layout.proofs.Field.{field-low}
-use Rattle.layout.proofs.Shaped.{Shaped, shaped}
+use Rattle.rules.specs.Store.{Object, Cap, State, masterOf}
+use Rattle.rules.specs.Valid.{Lives, Formed}
+use Rattle.rules.proofs.Forest.{master-in, master-unique}
+use Rattle.layout.specs.Rows as Rows
+use Rattle.layout.specs.Rows.{sizeOf, ownerOf, endOf}
+use Rattle.layout.specs.View.{view}
+use Rattle.layout.specs.WellFormed.{Plain}
+use Rattle.layout.proofs.Shown.{object-here, cap-object, cap-here, cap-shown}
 use Rattle.layout.proofs.Asked.{fields}
 use Rattle.call_steps.specs.Run.{Held}
 use Rattle.call_steps.proofs.Holding as Holding
 use Rattle.call_transfer.specs.Runs.{Target, ReadAsks, WriteAsks}
+use Rattle.call_transfer.proofs.Apart.{chain-is, chain-long}
 
--- along the climb, each window ends within the one above, and the master's at the size
-end-fits : {b l w : List ℕ} → Fields b l w → Shaped l → {i : ℕ} {xs : List ℕ} → Climbs (parentOf l) i xs
-    → ownerOf l i ≢ 0 → endOf w i ≤ sizeOf l (ownerOf l i)
-end-fits {b} {l} {w} f s top alive = absurd (omega (arith, field-low 512 Layout.OWNER l 0 alive))
-end-fits {b} {l} {w} f s (step {i} {xs} ne c) alive = by-eq (parentOf l i) 0
-    (λ z. omega (arith, f .caps i alive .whole z))
-    (λ nz.
-    let C = s .cap i alive in
-    let e : ownerOf l (parentOf l i) ≡ ownerOf l i = C .parent-owner nz in
-    let above : endOf w (parentOf l i) ≤ sizeOf l (ownerOf l i) = rw e at (end-fits f s c (C .parent-lives nz)) in
-    omega (arith, f .caps i alive .within nz .2))
+-- a window lies in the master's, which ends at the size
+end-fits : (s : State) → Formed s → (k : ℕ) → Lives (s .cap) k
+    → s .cap k .window .end ≤ s .object (s .cap k .object) .size
+end-fits s G k h =
+    let C = G .caps in
+    let m = G .master (s .cap k .object) (C .live k h .owned) in
+    let lives : Lives (s .cap) (m .0) = λ z. h (sym (m .1 .of) ∙ z) in
+    let same : masterOf s k ≡ m .0 = master-unique s C k (m .0) h lives (m .1 .parent) (sym (m .1 .of)) in
+    let end : s .cap (masterOf s k) .window .end ≡ s .cap (m .0) .window .end = ap (λ i. s .cap i .window .end) same in
+    omega (arith, master-in s C k h .window .end, end, m .1 .end)
 
-module _ {b l w : List ℕ} {k : ℕ} (f : WellFormed b l w) (h : Held l k) where
+module _ {b l w : List ℕ} {k : ℕ} (f : Plain b l w) (h : Held l k) where
+  end-here : Rows.masterOf l (ownerOf l k) ≢ 0 → endOf w k ≤ sizeOf l (ownerOf l k)
+  end-here alive =
+      let s : State = view b l w in
+      let end : s .cap k .window .end ≡ endOf w k = ap (λ (x : Cap). x .window .end) (cap-here b l w k (h .live)) in
+      let size : s .object (s .cap k .object) .size ≡ sizeOf l (ownerOf l k) =
+      ap (λ o. s .object o .size) (cap-object b l w k)
+      ∙ ap (λ (x : Object). x .size) (object-here b l w (ownerOf l k) alive) in
+      omega (arith, end-fits s (f .valid .formed) k (cap-shown b l w k (h .live)), end, size)
+
   pub target-of : Target l w k
   target-of =
-      let s = shaped l (f .shape) in
-      let c = s .cap k (h .live) in
+      let T = Holding.target-of f h in
+      let o : ℕ = ownerOf l k in
       record {
-        owned = Holding.target-of (f .shape) h;
-        chain = s .object (ownerOf l k) (c .owner-lives) .chain;
-        fits = end-fits (fields f) s (c .ends .1) (h .live);
-        size = fields f .objects (ownerOf l k) (c .owner-lives) .size;
+        owned = T;
+        chain = (f .blocks .chain o, chain-is l (f .blocks) o (T .live), chain-long l (f .blocks) o (T .live));
+        fits = end-here (T .live);
+        size = fields f .objects o (T .live) .size;
       }
 
   pub read-asks : {start end : ℕ} (buffer : List ℕ) → start ≤ end → end - start ≤ 256 → 256 ≤ length buffer

@@ -5,6 +5,8 @@ use mathlib.Core.Path.{_≡_}
 use mathlib.Core.Bool.{not}
 use mathlib.Core.List.{List, [], _∷_}
 use lib.ListN.{length, getD, set, take, drop}
+use Rattle.rules.specs.Code as Code
+use Rattle.rules.specs.Limit as Limit
 use Rattle.rules.specs.Store.{Window, blocks}
 use Rattle.rules.specs.Call.{handsOver}
 use Rattle.rules.specs.Refusals.{_when_, first}
@@ -26,11 +28,11 @@ hop next (suc n) k = next (hop next n k)
 
 -- the cell of byte p of the object whose first block is head
 unfoldable pub cellOf : List ℕ → ℕ → ℕ → ℕ
-cellOf l head p = Layout.DATA + hop (nextBlockOf l) (p / 64) head * 64 + p % 64
+cellOf l head p = Layout.DATA + hop (nextBlockOf l) (p / Limit.block) head * Limit.block + p % Limit.block
 
 -- the first n blocks from head on are there
 abbrev pub Blocked : List ℕ → ℕ → ℕ → Type 0
-Blocked l head n = (i : ℕ) → i < n → (1 ≤ hop (nextBlockOf l) i head) × (hop (nextBlockOf l) i head ≤ 512)
+Blocked l head n = (i : ℕ) → i < n → (1 ≤ hop (nextBlockOf l) i head) × (hop (nextBlockOf l) i head ≤ Limit.blocks)
 
 -- n stores to a list: of value i to place i, for each i below n, in order
 unfoldable pub laid : (place value : ℕ → ℕ) → ℕ → List ℕ → List ℕ
@@ -55,7 +57,7 @@ abbrev pub window : List ℕ → ℕ → Window
 window w k = range (startOf w k) (endOf w k)
 
 unfoldable pub inside : List ℕ → ℕ → ℕ → ℕ → ℕ
-inside w k start end = first (7 when not (liesIn (range start end) (window w k)) ∷ [])
+inside w k start end = first (Code.outsideWindow when not (liesIn (range start end) (window w k)) ∷ [])
 
 -- the bytes of the object in slot o
 unfoldable pub bytesIn : List ℕ → List ℕ → ℕ → List ℕ
@@ -95,23 +97,23 @@ writeRun b l w k start end source = settled (inside w k start end) b l w
 -- capability k lives and names a living object, whose blocks are there and hold the window
 pub record Target (l w : List ℕ) (k : ℕ) : Type 0 where
   pub owned : Run.Target l k
-  pub chain : (xs : List ℕ) × Chain 512 (nextBlockOf l) (firstBlockOf l (ownerOf l k)) xs
+  pub chain : (xs : List ℕ) × Chain Limit.blocks (nextBlockOf l) (firstBlockOf l (ownerOf l k)) xs
       × (length xs ≡ blocks (sizeOf l (ownerOf l k)))
   pub fits : endOf w k ≤ sizeOf l (ownerOf l k)
-  pub size : sizeOf l (ownerOf l k) ≤ 8192
+  pub size : sizeOf l (ownerOf l k) ≤ Limit.size
 
 pub record ReadAsks (b l w buffer : List ℕ) (k start end : ℕ) : Type 0 where
   pub sized : Sized b l w
   pub target : Target l w k
   pub ordered : start ≤ end
-  pub short : end ≤ start + 256
-  pub room : 256 ≤ length buffer
+  pub short : end ≤ start + Limit.transfer
+  pub room : Limit.buffer ≤ length buffer
 
 -- n bytes from start on of the object whose first block is head
 pub record CopyAsks (b l : List ℕ) (head start n : ℕ) : Type 0 where
   pub bytes : length b ≡ Layout.BYTES
   pub links : length l ≡ Layout.LINKS
-  pub small : start + n ≤ 8192
+  pub small : start + n ≤ Limit.size
   pub blocked : Blocked l head (blocks (start + n))
 
 pub record WriteAsks (b l w source : List ℕ) (k start end : ℕ) : Type 0 where

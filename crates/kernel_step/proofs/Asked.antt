@@ -14,6 +14,8 @@ use Rattle.rules.specs.Rights.{deposit, suspend, resume, applyLock, send, recei
 use Rattle.rules.specs.Call.{Call}
 use Rattle.rules.specs.Refusals.{nameFits, ordered, transferFits, bufferFits, argumentsFit, inRange}
 use Rattle.rules.proofs.Tests.{all2, all3}
+use Rattle.layout.specs.WellFormed.{Plain}
+use Rattle.layout.proofs.Plain.{plain}
 use Rattle.call_steps.specs.Run.{Held}
 use Rattle.call_steps.proofs.Fitting.{NoneTo, unknown-fits, transfer-ordered}
 use Rattle.call_marks.specs.Runs.{MarkAsks, LockAsks, ReviveAsks, InfoAsks}
@@ -49,6 +51,9 @@ short w h = leb-true _ _ (all2 (leb (w .start) (w .end)) (leb (w .end - w .start
 
 -- the last arm of the decision is never taken: the number is none of the sixteen
 module _ {b l w : List ℕ} {c : Call} {me k : ℕ} (A : OwnAsks b l w c me k) where
+  abbrev P : Plain b l w
+  P = plain (A .late .formed)
+
   pub no-other : NoneTo (c .number) 16 → ⊥
   no-other h = false≢true (sym (unknown-fits (c .number) c h) ∙ fits c (op (c .number)) refl (A .late .range))
 
@@ -62,7 +67,7 @@ module _ {b l w : List ℕ} {c : Call} {me k : ℕ} (A : OwnAsks b l w c me k) w
   unfolding presents argumentsFit bufferFits
   read-asked buffer long e =
       let f = all2 (transferFits (c .range)) (leb 256 (c .buffer)) (fits c read e (A .late .range)) in
-      read-asks (A .late .formed) (held read e refl) buffer (transfer-ordered (c .range) (f .0))
+      read-asks P (held read e refl) buffer (transfer-ordered (c .range) (f .0))
       (short (c .range) (f .0)) (omega (arith, leb-true 256 (c .buffer) (f .1)))
 
   pub write-asked : op (c .number) ≡ write → WriteAsks b l w (c .bytes) k (c .range .start) (c .range .end)
@@ -70,32 +75,32 @@ module _ {b l w : List ℕ} {c : Call} {me k : ℕ} (A : OwnAsks b l w c me k) w
   write-asked e =
       let f = all2 (transferFits (c .range)) (eqb (length (c .bytes)) (c .range .end - c .range .start))
       (fits c write e (A .late .range)) in
-      write-asks (A .late .formed) (held write e refl) (c .bytes) (transfer-ordered (c .range) (f .0))
+      write-asks P (held write e refl) (c .bytes) (transfer-ordered (c .range) (f .0))
       (eqb-true _ _ (f .1))
 
   pub info-asked : op (c .number) ≡ capInfo → InfoAsks w k
   unfolding presents
-  info-asked e = info-asks (A .late .formed) (held capInfo e refl)
+  info-asked e = info-asks P (held capInfo e refl)
 
   pub withdraw-asked : op (c .number) ≡ withdraw → Withdrawable l w me k (c .sum)
   unfolding presents
-  withdraw-asked e = withdrawable b l w (A .late .formed) me k (A .late .caller) (held withdraw e refl) (c .sum)
+  withdraw-asked e = withdrawable b l w P me k (A .late .caller) (held withdraw e refl) (c .sum)
 
   pub deposit-asked : op (c .number) ≡ deposit → Payable l w me k
   unfolding presents
-  deposit-asked e = payable b l w (A .late .formed) me k (A .late .caller) (held deposit e refl)
+  deposit-asked e = payable b l w P me k (A .late .caller) (held deposit e refl)
 
   pub suspend-asked : op (c .number) ≡ suspend → MarkAsks b l k
   unfolding presents
-  suspend-asked e = mark-asks (A .late .formed) (held suspend e refl)
+  suspend-asked e = mark-asks P (held suspend e refl)
 
   pub resume-asked : op (c .number) ≡ resume → MarkAsks b l k
   unfolding presents
-  resume-asked e = mark-asks (A .late .formed) (held resume e refl)
+  resume-asked e = mark-asks P (held resume e refl)
 
   pub lock-asked : op (c .number) ≡ applyLock → LockAsks b l w k
   unfolding presents
-  lock-asked e = lock-asks (A .late .formed) (held applyLock e refl)
+  lock-asked e = lock-asks P (held applyLock e refl)
 
   pub send-short : op (c .number) ≡ send → length (c .bytes) ≤ 16
   unfolding argumentsFit
@@ -103,17 +108,17 @@ module _ {b l w : List ℕ} {c : Call} {me k : ℕ} (A : OwnAsks b l w c me k) w
 
   pub send-asked : op (c .number) ≡ send → SendAsks b l w (c .bytes) me k
   unfolding presents
-  send-asked e = send-asks (A .late .formed) (c .bytes) (A .late .caller) (held send e refl) (send-short e)
+  send-asked e = send-asks P (c .bytes) (A .late .caller) (held send e refl) (send-short e)
 
   pub receive-asked : (buffer : List ℕ) → length buffer ≡ c .buffer → op (c .number) ≡ receive
       → ReceiveAsks b w buffer me
   unfolding argumentsFit bufferFits
-  receive-asked buffer long e = receive-asks (A .late .formed) buffer (A .late .caller)
+  receive-asked buffer long e = receive-asks P buffer (A .late .caller)
       (omega (arith, leb-true 256 (c .buffer) (fits c receive e (A .late .range))))
 
   pub revive-asked : op (c .number) ≡ revive → ReviveAsks b l w me k (c .sum)
   unfolding presents
-  revive-asked e = revive-asks (A .late .formed) (held revive e refl) (A .late .caller) (c .sum)
+  revive-asked e = revive-asks P (held revive e refl) (A .late .caller) (c .sum)
 
   pub make-asked : op (c .number) ≡ makeObj → Make.MakeAsks b l w (c .name) (c .size) (c .flag) (c .rights)
   make-asked e = make-asks (A .late .formed) c e (A .late .range)

@@ -5,6 +5,7 @@ pub mod Replying
 pub mod Showing
 pub mod Entering
 -- the exact runs are what the rules give, and what they leave where they refuse
+pub mod Shaping
 pub mod Meeting
 pub mod Refusing
 pub mod Promising

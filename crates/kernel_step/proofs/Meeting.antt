@@ -26,9 +26,10 @@ use Rattle.rules.proofs.Outcomes.{rule-early}
 use Rattle.rules.proofs.Theorems.{valid-kept}
 use Rattle.layout.specs.View.{view}
 use Rattle.layout.specs.Shape.{Shape}
-use Rattle.layout.specs.WellFormed.{Sized, Cells, WellFormed}
+use Rattle.layout.specs.WellFormed.{Sized, Cells, WellFormed, Plain}
+use Rattle.layout.proofs.Plain.{plain}
 use Rattle.call_steps.specs.Paying.{terminatedBytes, paidWords}
-use Rattle.call_steps.specs.Run.{Ran, over, outcome, own, Meets}
+use Rattle.call_steps.specs.Run.{Ran, over, outcome, own, Meets, MeetsPlain}
 use Rattle.call_steps.proofs.Entering.{early-range, payer-process}
 use Rattle.call_steps.proofs.Charging.{paid-view, paid-formed}
 use Rattle.call_steps.proofs.Holding.{presented-held}
@@ -48,6 +49,7 @@ use Rattle.kernel_step.specs.Run.{shownRun, lateRun, stepRun}
 use Rattle.kernel_step.proofs.Asked.{fits, write-asked, send-short}
 use Rattle.kernel_step.proofs.Showing.{later, shown-by}
 use Rattle.kernel_step.proofs.Entering.{step-by}
+use Rattle.kernel_step.proofs.Shaping.{shape-kept}
 
 -- ---- the call's own part
 
@@ -56,30 +58,37 @@ module _ {b l w : List ℕ} {c : Call} {me k : ℕ} (A : OwnAsks b l w c me k) (
   abbrev W : WellFormed b l w
   W = A .late .formed
 
+  abbrev P : Plain b l w
+  P = plain W
+
   abbrev Met : Op → Type 0
   Met o = Meets (view b l w) c me k o (ownRun b l w c me k o)
+
+  -- the calls that write no link
+  kept : {o : Op} → MeetsPlain l (view b l w) c me k o (ownRun b l w c me k o) → Met o
+  kept m = shape-kept (W .shape) m
 
   own-met : (o : Op) → op (c .number) ≡ o → Met o
   unfolding ownRun presents argumentsFit
   own-met makeObj e = make-meets W c me k (arguments-of c e (A .late .range)) e
-  own-met read e = read-meets W c me k (A .held (ap presents e)) e
+  own-met read e = kept (read-meets P c me k (A .held (ap presents e)) e)
   own-met write e =
       let a = write-asked A e in
-      write-meets W c me k (A .held (ap presents e)) (a .ordered) (a .long) e
-  own-met capInfo e = cap-info-meets W c me k (A .held (ap presents e)) e
+      kept (write-meets P c me k (A .held (ap presents e)) (a .ordered) (a .long) e)
+  own-met capInfo e = kept (cap-info-meets P c me k (A .held (ap presents e)) e)
   own-met deriveCap e = derive-meets W c me k (A .held (ap presents e)) e
   own-met deleteCap e = delete-meets W c me k (A .held (ap presents e)) e
   own-met renameObj e = rename-meets W c me k (A .held (ap presents e)) e (sym who)
       (found ∙ ap (λ i. presented (view b l w) i (c .presented)) (sym who))
-  own-met withdraw e = withdraw-meets b l w W me k (A .late .caller) (A .held (ap presents e)) c (c .sum) e refl
-  own-met deposit e = deposit-meets b l w W me k (A .late .caller) (A .held (ap presents e)) c (c .sum) e refl
-  own-met suspend e = suspend-meets W c me k (A .held (ap presents e)) e
-  own-met resume e = resume-meets W c me k (A .held (ap presents e)) e
-  own-met applyLock e = apply-lock-meets W c me k (A .held (ap presents e)) e
-  own-met send e = send-meets W c me k (A .late .caller) (A .held (ap presents e)) (send-short A e) e
-  own-met receive e = receive-meets W c me k (A .late .caller) e
-  own-met wait e = wait-meets W c me k (A .late .caller) e
-  own-met revive e = revive-meets W c me k (A .late .caller) (A .held (ap presents e)) e
+  own-met withdraw e = kept (withdraw-meets b l w P me k (A .late .caller) (A .held (ap presents e)) c (c .sum) e refl)
+  own-met deposit e = kept (deposit-meets b l w P me k (A .late .caller) (A .held (ap presents e)) c (c .sum) e refl)
+  own-met suspend e = kept (suspend-meets P c me k (A .held (ap presents e)) e)
+  own-met resume e = kept (resume-meets P c me k (A .held (ap presents e)) e)
+  own-met applyLock e = kept (apply-lock-meets P c me k (A .held (ap presents e)) e)
+  own-met send e = kept (send-meets P c me k (A .late .caller) (A .held (ap presents e)) (send-short A e) e)
+  own-met receive e = kept (receive-meets P c me k (A .late .caller) e)
+  own-met wait e = kept (wait-meets P c me k (A .late .caller) e)
+  own-met revive e = kept (revive-meets P c me k (A .late .caller) (A .held (ap presents e)) e)
   own-met unknown e = absurd (false≢true (fits c unknown e (A .late .range)))
 
   pub own-meets : Met (op (c .number))
@@ -139,7 +148,7 @@ module _ {b l w : List ℕ} {c : Call} {me : ℕ} (A : LateAsks b l w c me) (who
         rules = own-is (m .choice) e ∙ m .rules;
         sized = m .sized;
         cells = m .cells;
-        shape = m .shape;
+        shape = m .links;
       }
 
   pub late-meets : MeetsPaid s c slot (lateRun b l w c me)

@@ -1,4 +1,5 @@
--- And the other way: a well-formed store passes the tests, it has what is asked of its fields.
+-- And the other way: a well-formed store passes the tests, it has what is asked of its fields. No link of a tree is
+-- looked at for that.
 use Prim.Native.Nat.{ℕ, _≤_}
 use mathlib.Core.Path.{_≡_, sym, ap, _∙_}
 use mathlib.Core.Logic.{_≢_}
@@ -9,12 +10,12 @@ use Rattle.rules.specs.Valid.{Lives}
 use Rattle.layout.specs.Rows.{volumeOf, flagOf, masterOf, serialOf, sizeOf, ownerOf, parentOf, rightsOf}
 use Rattle.layout.specs.Rows.{p1Of, startOf, endOf}
 use Rattle.layout.specs.View.{view}
-use Rattle.layout.specs.WellFormed.{WellFormed}
+use Rattle.layout.specs.WellFormed.{Plain}
 use Rattle.layout.specs.Fields.{ProcessFits, ObjectFits, CapFits, Fields}
 use Rattle.layout.proofs.Shown.{set-yes, process-yes, object-here, object-lives, object-shown, lock-here}
 use Rattle.layout.proofs.Shown.{cap-here, cap-object, cap-lives, cap-shown, parent-is}
 
-module _ (b l w : List ℕ) (g : WellFormed b l w) where
+module _ (b l w : List ℕ) (g : Plain b l w) where
   -- ---- objects
 
   process-fits : (o : ℕ) → masterOf l o ≢ 0 → flagOf b o ≢ 0 → ProcessFits b w o
@@ -88,7 +89,7 @@ module _ (b l w : List ℕ) (g : WellFormed b l w) where
   passwords i j hi hj e p = g .valid .formed .caps .passwords i j (cap-shown b l w i hi) (cap-shown b l w j hj)
       (cap-object b l w i ∙ e ∙ sym (cap-object b l w j)) (rw (cap-here b l w i hi, cap-here b l w j hj) p)
 
-pub fields : {b l w : List ℕ} → WellFormed b l w → Fields b l w
+pub fields : {b l w : List ℕ} → Plain b l w → Fields b l w
 fields {b} {l} {w} g = record {
   objects = object-fits b l w g;
   names = names b l w g;

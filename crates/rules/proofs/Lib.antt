@@ -28,6 +28,7 @@ pub mod Making
 pub mod Deleting
 pub mod Renaming
 pub mod Answers
+pub mod Bytes
 pub mod Done
 pub mod Steps
 -- lists of calls

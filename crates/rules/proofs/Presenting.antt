@@ -29,6 +29,13 @@ named s n h =
     same-name (s .object o .name) n
     (all2 (s .object o .live) (sameName (s .object o .name) n) (find-finds 64 t h .0) .1)
 
+-- the object found lives
+pub found-live : (s : State) (n : Name) → objectNamed s n ≢ 0 → s .object (objectNamed s n) .live ≡ true
+unfolding objectNamed
+found-live s n h =
+    let t : ℕ → Bool = λ o. s .object o .live && sameName (s .object o .name) n in
+    all2 (s .object (find 64 t) .live) (sameName (s .object (find 64 t) .name) n) (find-finds 64 t h .0) .0
+
 -- where no object of the name is found there is none
 pub not-named : (s : State) (n : Name) → Objects (s .object) → objectNamed s n ≡ 0
     → (o : ℕ) → s .object o .live ≡ true → s .object o .name ≢ n

@@ -2,6 +2,7 @@
 use native.Mathlib.Omega.{arith}
 use borrow.Author.Needs.{needs}
 use Rattle.layout.proofs.Formed.{formed}
+use Rattle.layout.proofs.Plain.{plain}
 use Rattle.layout.proofs.Asked.{fields}
 use Rattle.layout.proofs.Deciding.{no-it, as-well, refuted}
 use Rattle.kernel_check.proofs.check.Statement.{statement}
@@ -32,7 +33,7 @@ returns-4 c =
       links = λ i. omega (arith, known .before .shared-slice-known2 .given i);
       words = λ i. omega (arith, known .shared-slice-known3 .given i);
     }) (search needs) (shaped .check-shape .ensures .sound (c .before .if4 .taken)))
-    fields
+    (λ f. fields (plain f))
 
 returns-5 : tie.Need-returns-5
 returns-5 c = no-it (λ f. refuted (c .before .check-shape .ensures) (c .if4 .left) (f .shape))

@@ -8,7 +8,10 @@ abbrev held : tie.After-record → tie.After-hold
 held c = c .before .before .before .before .before .before .before .before .before
 
 abbrev entry : tie.After-hold → tie.Start
-entry c = c .before .before .before .before .before .before
+entry c = c .before .before .before .before .before .before .before
+
+slice-read-free : tie.Need-slice-read-free
+slice-read-free c = search needs
 
 hold-requires : tie.Need-hold-requires
 hold-requires c κs = search needs
@@ -44,6 +47,7 @@ pub place-spec : {M : Type 1} → statement M
 place-spec =
     tie.close
     (tie.spec
+    slice-read-free
     hold-requires
     record-requires
     master-of-requires

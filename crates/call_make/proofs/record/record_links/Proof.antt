@@ -18,9 +18,6 @@ slice-read-next c = search needs
 slice-read-first : tie.Need-slice-read-first
 slice-read-first c = search needs
 
-slice-read-master : tie.Need-slice-read-master
-slice-read-master c = search needs
-
 slice-write-links : tie.Need-slice-write-links
 slice-write-links c = search needs
 
@@ -71,8 +68,8 @@ same-length c = simp length-set
 
 returns : tie.Need-returns
 returns c =
-    let s = c .before .before .before in
-    links-recorded (s .args .links .now) (s .args .o) (s .args .serial) (s .args .size) (s .pre .1)
+    let s = c .before .before in
+    links-recorded (s .args .links .now) (s .args .o) (s .args .serial) (s .args .size) (s .args .master) (s .pre .1)
 
 pub record-links-spec : {M : Type 1} → statement M
 record-links-spec =
@@ -82,7 +79,6 @@ record-links-spec =
     mul-next
     slice-read-next
     slice-read-first
-    slice-read-master
     slice-write-links
     add-links
     mul-links
