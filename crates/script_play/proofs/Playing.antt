@@ -21,6 +21,7 @@ use Rattle.call_steps.specs.declared.request.Reply.{Reply}
 use Rattle.call_steps.specs.Request.{callOf}
 use Rattle.call_steps.specs.Request.{answerOf as replyAnswer}
 use Rattle.kernel_step.specs.Slices.{Slices, slices, callOn}
+use Rattle.kernel_step.specs.Run.{stepRun}
 use Rattle.kernel_step.specs.Steps.{Stepped}
 use Rattle.script_text.specs.Numeral.{lineOf}
 use Rattle.script_text.specs.Pasted.{Put}
@@ -99,6 +100,13 @@ good-played q r ns text b l w buffer scratch b′ l′ w′ buffer′ scratch′
       answer = replyAnswer r (take (r .count) buffer′);
       rules = line-good (st .rules .choice) (view b l w) ns fits
           ∙ ap (λ (c : Call). rule (view b l w) c (st .rules .choice)) (sym e) ∙ st .rules .rules;
+      exact = λ _. ap (stepRun b l w) (sym e)
+          ∙ (λ d. record {
+            answer = sym (st .exact .replies .answer) d;
+            bytes = sym (st .exact .store .bytes) d;
+            links = sym (st .exact .store .links) d;
+            words = sym (st .exact .store .words) d;
+          });
       bad = λ f. absurd (true≢false (sym fits ∙ f));
       formed = st .rules .formed;
       wrote = subst (λ (k : ℕ). Put ANSWER out at (lineOf (number ∷ answerOf (op k) (replyAnswer r (take (r .count) buffer′)))) out′ n) m put;
@@ -122,6 +130,7 @@ bad-played {ns} {b} {l} {w} {out} {out′} {number} {at} {n} f bad put = record 
   allowed = λ g. absurd (true≢false (sym g ∙ bad));
   answer = code 2;
   rules = line-bad no-choice (view b l w) ns bad;
+  exact = λ g. absurd (true≢false (sym g ∙ bad));
   bad = λ _. record { bytes = refl; links = refl; words = refl };
   formed = f;
   wrote = record {

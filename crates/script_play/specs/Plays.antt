@@ -7,12 +7,14 @@ use mathlib.Core.List.{List, _∷_}
 use lib.ListN.{length}
 use Rattle.rules.specs.Store.{State}
 use Rattle.rules.specs.Rights.{op}
+use Rattle.rules.specs.Limit as Limit
 use Rattle.rules.specs.Call.{Answer, Outcome, Choice, code}
 use Rattle.rules.specs.Rule.{rule}
 use Rattle.rules.specs.Demand.{Allowed}
 use Rattle.rules.specs.Script.{nth, lineFits, callOf, answerOf}
 use Rattle.layout.specs.View.{view}
 use Rattle.layout.specs.WellFormed.{WellFormed}
+use Rattle.kernel_step.specs.Run.{stepRun}
 use Rattle.script_text.specs.Numeral.{lineOf}
 use Rattle.script_text.specs.Scan.{Means}
 use Rattle.script_text.specs.Lines.{mostNumbers}
@@ -40,6 +42,9 @@ pub record Played (ns : List ℕ) (number : ℕ) (b l w b′ l′ w′ out : Lis
   -- the answer and the store are those of the rules
   pub answer : Answer
   pub rules : lineWith choice (view b l w) ns ≡ record { answer = answer; after = view b′ l′ w′ }
+  -- and they are the exact run's, which says what is taken where 01 leaves it open
+  pub exact : lineFits (op (nth ns 0)) ns ≡ true → stepRun b l w (callOf (op (nth ns 0)) ns)
+      ≡ record { answer = answer; bytes = b′; links = l′; words = w′ }
   -- a bad line changes no cell
   pub bad : lineFits (op (nth ns 0)) ns ≡ false → Unchanged b l w b′ l′ w′
   -- "Every call keeps it" well formed
@@ -55,13 +60,29 @@ pub record Plays (line : List ℕ) (number : ℕ) (b l w b′ l′ w′ out : Li
 
 -- ---- what the code asks
 
+-- the working room that is lent for a call: the bytes that come with it, the answer buffer, the scratch. What is left in it is open
+pub record Lent (ts bs ss : List ℕ) : Type 0 where
+  pub text : length ts ≡ mostNumbers
+  pub buffer : length bs ≡ Limit.buffer
+  pub scratch : length ss ≡ Limit.scratch
+
+-- and for a line: its numbers
+pub record Working (ns ts bs ss : List ℕ) : Type 0 where
+  pub numbers : length ns ≡ mostNumbers
+  pub lent : Lent ts bs ss
+
 -- a well-formed store, and room for an answer
 pub record PlayAsks (b l w out : List ℕ) (at : ℕ) : Type 0 where
   pub formed : WellFormed b l w
   pub room : at + ANSWER ≤ length out
 
--- and numbers that fit their call, no more than a line has
-pub record CallAsks (b l w ns out : List ℕ) (at : ℕ) : Type 0 where
+-- and numbers, no more than a line has
+pub record NumbersAsk (b l w ns ts bs ss out : List ℕ) (at : ℕ) : Type 0 where
   pub play : PlayAsks b l w out at
-  pub fits : lineFits (op (nth ns 0)) ns ≡ true
   pub few : length ns ≤ mostNumbers
+  pub lent : Lent ts bs ss
+
+-- which fit their call
+pub record CallAsks (b l w ns ts bs ss out : List ℕ) (at : ℕ) : Type 0 where
+  pub asks : NumbersAsk b l w ns ts bs ss out at
+  pub fits : lineFits (op (nth ns 0)) ns ≡ true
