@@ -4,7 +4,8 @@ ghost use mathlib.Core.List.{[], _∷_};
 ghost use lib.ListN.{length};
 ghost use Rattle.script_text.specs.Numeral.{lineOf};
 ghost use Rattle.script_text.specs.Pasted.{Put};
-ghost use Rattle.script_play.specs.Plays.{PlayAsks, CallAsks, Played, Plays};
+ghost use Rattle.script_answers.specs.Room.{REFUSAL};
+ghost use Rattle.script_play.specs.Plays.{Working, PlayAsks, NumbersAsk, CallAsks, Played, Plays};
 use kernel_step::step;
 use script_answers::answer::answer_line;
 use script_lines::fits::line_fits;
@@ -14,12 +15,12 @@ use script_text::read::read_line;
 use script_text::write::put_line;
 
 // "A bad line .. is answered 2".
-fn bad_line(out: &mut [u8], at: usize, number: u32) -> usize
-    requires { ⌜ at + 22 ≤ length (now out) ⌝ }
-    ensures { λ r. ⌜ Put 22 (now (out .entry)) at (lineOf (number ∷ 2 ∷ [])) (now (out .exit)) r ⌝ }
+fn bad_line(out: &mut [u8], at: usize, number: u64) -> usize
+    requires { ⌜ at + REFUSAL ≤ length (now out) ⌝ }
+    ensures { λ r. ⌜ Put REFUSAL (now (out .entry)) at (lineOf (number ∷ 2 ∷ [])) (now (out .exit)) r ⌝ }
 {
-    let numbers = [number, 2u32];
-    put_line(out, at, &numbers)
+    let others = [2u32];
+    put_line(out, at, number, &others)
 }
 
 // The call that a line of these numbers says.
@@ -28,29 +29,21 @@ fn good_line(
     links: &mut [u16],
     words: &mut [u32],
     numbers: &[u32],
-    number: u32,
+    text: &mut [u8],
+    buffer: &mut [u8],
+    scratch: &mut [u16],
+    number: u64,
     out: &mut [u8],
     at: usize,
 ) -> usize
-    requires { ⌜ CallAsks (now bytes) (now links) (now words) (now numbers) (now out) at ⌝ }
+    requires { ⌜ CallAsks (now bytes) (now links) (now words) (now numbers) (now text) (now buffer) (now scratch) (now out) at ⌝ }
     ensures { λ r. ⌜ Played (now (numbers .entry)) number (now (bytes .entry)) (now (links .entry)) (now (words .entry))
         (now (bytes .exit)) (now (links .exit)) (now (words .exit)) (now (out .entry)) at (now (out .exit)) r ⌝ }
 {
-    let mut text = [0u8; 1024];
-    let mut buffer = [0u8; 256];
-    let mut scratch = [0u16; 512];
     let req = request_of(numbers);
-    let n = bytes_of(numbers, &mut text);
-    let reply = step(
-        bytes,
-        links,
-        words,
-        &text[..n],
-        &mut buffer,
-        &mut scratch,
-        req,
-    );
-    answer_line(out, at, number, req.number, reply, &buffer)
+    let n = bytes_of(numbers, text);
+    let reply = step(bytes, links, words, &text[..n], buffer, scratch, req);
+    answer_line(out, at, number, req.number, reply, buffer)
 }
 
 // A line of these numbers.
@@ -59,16 +52,30 @@ fn play_numbers(
     links: &mut [u16],
     words: &mut [u32],
     numbers: &[u32],
-    number: u32,
+    text: &mut [u8],
+    buffer: &mut [u8],
+    scratch: &mut [u16],
+    number: u64,
     out: &mut [u8],
     at: usize,
 ) -> usize
-    requires { ⌜ PlayAsks (now bytes) (now links) (now words) (now out) at ⌝ ∗ ⌜ length (now numbers) ≤ 1024 ⌝ }
+    requires { ⌜ NumbersAsk (now bytes) (now links) (now words) (now numbers) (now text) (now buffer) (now scratch) (now out) at ⌝ }
     ensures { λ r. ⌜ Played (now (numbers .entry)) number (now (bytes .entry)) (now (links .entry)) (now (words .entry))
         (now (bytes .exit)) (now (links .exit)) (now (words .exit)) (now (out .entry)) at (now (out .exit)) r ⌝ }
 {
     if line_fits(numbers) {
-        return good_line(bytes, links, words, numbers, number, out, at);
+        return good_line(
+            bytes,
+            links,
+            words,
+            numbers,
+            text,
+            buffer,
+            scratch,
+            number,
+            out,
+            at,
+        );
     }
     bad_line(out, at, number)
 }
@@ -78,16 +85,31 @@ pub fn play_line(
     bytes: &mut [u8],
     links: &mut [u16],
     words: &mut [u32],
+    numbers: &mut [u32],
+    text: &mut [u8],
+    buffer: &mut [u8],
+    scratch: &mut [u16],
     line: &[u8],
-    number: u32,
+    number: u64,
     out: &mut [u8],
     at: usize,
 ) -> usize
-    requires { ⌜ PlayAsks (now bytes) (now links) (now words) (now out) at ⌝ }
+    requires { ⌜ PlayAsks (now bytes) (now links) (now words) (now out) at ⌝
+        ∗ ⌜ Working (now numbers) (now text) (now buffer) (now scratch) ⌝ }
     ensures { λ r. ⌜ Plays (now (line .entry)) number (now (bytes .entry)) (now (links .entry)) (now (words .entry))
         (now (bytes .exit)) (now (links .exit)) (now (words .exit)) (now (out .entry)) at (now (out .exit)) r ⌝ }
 {
-    let mut numbers = [0u32; 1024];
-    let n = read_line(line, &mut numbers);
-    play_numbers(bytes, links, words, &numbers[..n], number, out, at)
+    let n = read_line(line, numbers);
+    play_numbers(
+        bytes,
+        links,
+        words,
+        &numbers[..n],
+        text,
+        buffer,
+        scratch,
+        number,
+        out,
+        at,
+    )
 }

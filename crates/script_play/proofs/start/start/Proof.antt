@@ -8,21 +8,18 @@ use borrow.Author.Needs.{needs}
 use Rattle.script_play.proofs.start.start.Statement.{statement}
 use Rattle.script_play.proofs.start.start.Tie as tie
 
-slice-aggregate-read-line : tie.Need-slice-aggregate-read-line
-slice-aggregate-read-line c = search needs
-
-read-line-requires : tie.Need-read-line-requires
-read-line-requires c κs = search needs
-
-array-share-prefix-numbers : tie.Need-array-share-prefix-numbers
-array-share-prefix-numbers c = search needs
-
 -- no more numbers than there are cells
 few : (c : tie.After-read-line) → c .read-line .result ≤ length (c .read-line .last .1 .0)
 few c = omega (arith, c .read-line .ensures .count, c .read-line .kept .1 .0)
 
+read-line-requires : tie.Need-read-line-requires
+read-line-requires c κs = search needs
+
+slice-reshare-prefix-start-numbers : tie.Need-slice-reshare-prefix-start-numbers
+slice-reshare-prefix-start-numbers c = search needs
+
 slice-aggregate-start-numbers : tie.Need-slice-aggregate-start-numbers
-slice-aggregate-start-numbers c = sym (length-take-le _ _ (few (c .before .before)))
+slice-aggregate-start-numbers c = sym (length-take-le _ _ (few (c .before .before .before)))
 
 start-numbers-requires : tie.Need-start-numbers-requires
 start-numbers-requires c κs = search needs
@@ -36,6 +33,9 @@ same-length-2 c = search needs
 same-length-3 : tie.Need-same-length-3
 same-length-3 c = search needs
 
+same-length-4 : tie.Need-same-length-4
+same-length-4 c = search needs
+
 returns : tie.Need-returns
 returns c = search needs
 
@@ -43,12 +43,12 @@ pub start-spec : {M : Type 1} → statement M
 start-spec =
     tie.close
     (tie.spec
-    slice-aggregate-read-line
     read-line-requires
-    array-share-prefix-numbers
+    slice-reshare-prefix-start-numbers
     slice-aggregate-start-numbers
     start-numbers-requires
     same-length
     same-length-2
     same-length-3
+    same-length-4
     returns)
