@@ -1,7 +1,7 @@
 -- make_obj's run is what the rules give of its own part: 01, "make_obj" of "What each call refuses, in order"; and what
 -- its code asks follows from well-formedness and the ranges of the arguments.
 use Prim.Native.Nat.{ℕ, _≤_}
-use mathlib.Core.Path.{_≡_, refl, sym, ap, _∙_}
+use mathlib.Core.Path.{_≡_, refl, sym, ap, _∙_, subst}
 use mathlib.Core.Bool.{true, false, not, _&&_, _||_}
 use mathlib.Core.List.{List, [], _∷_}
 use native.Mathlib.Omega.{arith}
@@ -22,17 +22,17 @@ use Rattle.layout.specs.View.{view}
 use Rattle.layout.specs.WellFormed.{WellFormed}
 use Rattle.layout.proofs.Free.{objects-full, object-first, object-open}
 use Rattle.layout.proofs.FreeCaps.{FirstFree, first-free, caps-full, first-open}
-use Rattle.call_steps.specs.Run.{Meets, outcome}
+use Rattle.call_steps.specs.Run.{Meets, Ran, outcome, over}
 use Rattle.call_steps.specs.Replies.{handed}
 use Rattle.call_steps.specs.Tests.{ObjectSlot}
-use Rattle.call_steps.proofs.Meeting.{Takes, meets-taken}
+use Rattle.call_steps.proofs.Meeting.{stopped, goes-on, Takes, meets-taken}
 use Rattle.call_steps.proofs.Replying.{handed-is}
 use Rattle.call_blocks.proofs.Taken.{few-is, few-enough}
 use Rattle.call_grow.specs.Made.{freeCap}
 use Rattle.call_grow.proofs.Making.{made-words}
 use Rattle.call_grow.proofs.Showing.{new-shows}
 use Rattle.call_make.specs.Runs.{freeObject, noSpace, makeStop, masterCap, madeBytes, objectLinks, recordWords}
-use Rattle.call_make.specs.Runs.{madeLinks, madeWords, made, makeRun, Arguments, MakeAsks}
+use Rattle.call_make.specs.Runs.{madeLinks, madeWords, made, makeRun, WereFree, NewWereFree, Arguments, MakeAsks}
 use Rattle.call_make.proofs.Rows.{words-long}
 use Rattle.call_make.proofs.Stops.{Space, space-is}
 use Rattle.call_make.proofs.Showing.{ObjectMade, object-made-is}
@@ -175,6 +175,24 @@ module _ {b l w : List ℕ} (f : WellFormed b l w) (c : Call) (me k : ℕ)
   make-meets e = meets-taken b l w c me k makeObj taking f (makeStop b l w (c .name) (c .size))
       (made b l w o (c .name) (c .size) (c .flag) x) stop-is
       (λ z. takes (space-is l n (spacious z)) e)
+
+  -- ---- the blocks that it takes were free
+
+  new-free : Space l n → NewWereFree l (made b l w o (c .name) (c .size) (c .flag) x .links)
+  unfolding made
+  new-free P q z nz = by-eq q o
+      (λ e. subst (WereFree l (l′ P)) (sym e) (L P .free))
+      (λ ne. absurd (nz (L P .master .else q ne ∙ z)))
+
+  pub make-free : NewWereFree l (makeRun b l w (c .name) (c .size) (c .flag) (c .rights) (c .drawn) .links)
+  unfolding makeRun over
+  make-free =
+      let m : ℕ = makeStop b l w (c .name) (c .size) in
+      let run : Ran = made b l w o (c .name) (c .size) (c .flag) x in
+      let Free : Ran → Type 0 = λ r. NewWereFree l (r .links) in
+      by-eq m 0
+      (λ z. subst Free (goes-on b l w run z) (new-free (space-is l n (spacious z))))
+      (λ ne. subst Free (stopped b l w run m refl ne) (λ q z nz. absurd (nz z)))
 
 -- ---- what the code asks
 

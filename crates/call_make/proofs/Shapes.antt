@@ -1,6 +1,6 @@
 -- The shape of the links once the object is made.
 use Prim.Native.Nat.{ℕ, _≤_}
-use mathlib.Core.Path.{_≡_, refl, _∙_}
+use mathlib.Core.Path.{_≡_, refl, ap, _∙_}
 use mathlib.Core.Logic.{_≢_}
 use mathlib.Core.List.{List}
 use native.Mathlib.Omega.{arith}
@@ -9,14 +9,16 @@ use Rattle.rules.specs.Slots.{at}
 use Rattle.rules.specs.Store.{Cap, blocks}
 use Rattle.layout.specs.Layout as Layout
 use Rattle.layout.specs.Rows.{masterOf, nextObjectOf}
-use Rattle.layout.specs.Shape.{Objects, Caps, Blocks, Shape}
+use Rattle.layout.specs.Shape.{times, Objects, Caps, Blocks, Shape}
+use Rattle.layout.proofs.Linking.{times-append}
 use Rattle.layout.proofs.FreeCaps.{FirstFree, first-free}
 use Rattle.call_steps.specs.Tests.{ObjectSlot}
 use Rattle.call_blocks.specs.Taking.{takenLinks}
+use Rattle.call_blocks.proofs.Taken.{taken-split}
 use Rattle.call_blocks.proofs.Shaping.{taken-blocks}
 use Rattle.call_grow.specs.Made.{freeCap, newLinks}
 use Rattle.call_grow.proofs.Making.{OneSlot, one-slot, MadeLinks, made-links}
-use Rattle.call_make.specs.Runs.{freeObject, objectLinks}
+use Rattle.call_make.specs.Runs.{freeObject, objectLinks, WereFree}
 use Rattle.call_make.proofs.Rows.{Recorded, recorded}
 use Rattle.call_make.proofs.Chained.{object-moved}
 use Rattle.call_make.proofs.Rooted.{Roots, cap-rooted}
@@ -27,6 +29,7 @@ pub record LinksMade (l l₂ l′ : List ℕ) (o i : ℕ) : Type 0 where
   pub long : length l′ ≡ Layout.LINKS
   pub master : OneSlot (masterOf l) (masterOf l′) o i
   pub shape : Shape l′
+  pub free : WereFree l l′ o
 
 module _ (l : List ℕ) (long : length l ≡ Layout.LINKS) (s : Shape l) (S : ObjectSlot (freeObject l))
     (dead : masterOf l (freeObject l) ≡ 0) (some : freeCap l ≢ 0) (serial size : ℕ)
@@ -96,10 +99,22 @@ module _ (l : List ℕ) (long : length l ≡ Layout.LINKS) (s : Shape l) (S : Ob
     M .free-blocks-head ∙ D .free-blocks-head,
   ) (taken-blocks l long o (S .low) (S .high) (s .blocks) dead (blocks size) room i size some refl)
 
+  were-free : WereFree l l′ o
+  were-free =
+      let T = taken-split l long o (S .low) (S .high) (s .blocks) (blocks size) room in
+      record {
+        blocks = T .front;
+        chain = rw (M .next-block-same ∙ D .next-block-is, M .first-block-same ∙ D .first-block-is) (T .front-chain);
+        free = s .blocks .free;
+        free-chain = s .blocks .free-chain;
+        were = λ k h. omega (arith, h, ap (times k) (T .is), times-append k (T .front) (T .back));
+      }
+
   pub links-made : LinksMade l l₂ l′ o i
   links-made = record {
     object-long = D .long ∙ long;
     long = M .long ∙ D .long ∙ long;
     master = one-slot masters;
     shape = record { objects = objects; caps = caps; blocks = held };
+    free = were-free;
   }

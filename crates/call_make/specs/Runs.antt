@@ -2,6 +2,7 @@
 -- those that the fee left; `o` is the slot that the new object takes, the first free one.
 use Prim.Native.Nat.{ℕ, _+_, _≤_}
 use mathlib.Core.Path.{_≡_}
+use mathlib.Core.Logic.{_≢_}
 use mathlib.Core.Bool.{Bool, not, _||_}
 use mathlib.Core.List.{List, [], _∷_}
 use lib.Dec.{eqb}
@@ -11,13 +12,14 @@ use Rattle.rules.specs.Limit as Limit
 use Rattle.rules.specs.Store.{Name, Password, Cap, blocks, objectNamed}
 use Rattle.rules.specs.Refusals.{_when_, first}
 use Rattle.layout.specs.Layout as Layout
-use Rattle.layout.specs.Rows.{nextObjectOf}
+use Rattle.layout.specs.Rows.{masterOf, firstBlockOf, nextObjectOf, nextBlockOf}
 use Rattle.layout.specs.View.{view}
+use Rattle.layout.specs.Shape.{Chain, times}
 use Rattle.layout.specs.WellFormed.{Sized}
 use Rattle.call_steps.specs.Run.{Ran, settled}
 use Rattle.call_steps.specs.Replies.{handed}
 use Rattle.call_steps.specs.Tests.{ObjectSlot, CapSlot}
-use Rattle.call_blocks.specs.Taking.{tooFew, clearedBytes, takenLinks, FreeChain, Enough}
+use Rattle.call_blocks.specs.Taking.{freeHead, tooFew, clearedBytes, takenLinks, FreeChain, Enough}
 use Rattle.call_grow.specs.declared.cap.NewCap.{NewCap}
 use Rattle.call_grow.specs.Made.{capOf, freeCap, newLinks, newWords}
 
@@ -97,6 +99,20 @@ made b l w o name size flag x = record {
 unfoldable pub makeRun : List ℕ → List ℕ → List ℕ → Name → ℕ → ℕ → ℕ → Password → Ran
 makeRun b l w name size flag rights drawn = settled (makeStop b l w name size) b l w
     (made b l w (freeObject l) name size flag (masterCap (freeObject l) size rights drawn))
+
+-- ---- its blocks were free
+
+-- the blocks of the object in slot o of the links l′ are all in the chain of free blocks of l
+pub record WereFree (l l′ : List ℕ) (o : ℕ) : Type 0 where
+  pub blocks : List ℕ
+  pub chain : Chain Limit.blocks (nextBlockOf l′) (firstBlockOf l′ o) blocks
+  pub free : List ℕ
+  pub free-chain : Chain Limit.blocks (nextBlockOf l) (freeHead l) free
+  pub were : (k : ℕ) → 1 ≤ times k blocks → 1 ≤ times k free
+
+-- so are those of every object of l′ that does not live in l
+abbrev pub NewWereFree : List ℕ → List ℕ → Type 0
+NewWereFree l l′ = (o : ℕ) → masterOf l o ≡ 0 → masterOf l′ o ≢ 0 → WereFree l l′ o
 
 -- ---- what the code asks
 

@@ -7,5 +7,6 @@ pub mod Entering
 -- the exact runs are what the rules give, and what they leave where they refuse
 pub mod Shaping
 pub mod Meeting
+pub mod Taking
 pub mod Refusing
 pub mod Promising

@@ -12,11 +12,13 @@ use Rattle.call_steps.specs.declared.request.Request.{Request}
 use Rattle.call_steps.specs.declared.request.Reply.{Reply}
 use Rattle.call_steps.specs.Request.{answerOf}
 use Rattle.call_steps.specs.Run.{Ran, overlay}
+use Rattle.call_make.specs.Runs.{NewWereFree}
 use Rattle.kernel_step.specs.Slices.{Slices, slices, stateOf, callOn}
 use Rattle.kernel_step.specs.Run.{stepRun}
 use Rattle.kernel_step.specs.Ends.{scratchAfter, Ends, StepEnds}
 use Rattle.kernel_step.specs.Steps.{Refuses, front, Steps, Stepped}
 use Rattle.kernel_step.proofs.Meeting.{step-meets}
+use Rattle.kernel_step.proofs.Taking.{blocks-free}
 use Rattle.kernel_step.proofs.Refusing.{step-leaves}
 
 module _ {c : Call} {r : Reply} {was is : Slices} (A : WellFormed (was .bytes) (was .links) (was .words))
@@ -49,6 +51,8 @@ module _ {c : Call} {r : Reply} {was is : Slices} (A : WellFormed (was .bytes) (
             (sym code-is)
             (step-leaves was c (m .choice) (is .buffer) (is .scratch)
             (ap (λ (o : Outcome). o .answer .code) (m .rules))));
+        blocks = subst (NewWereFree (was .links)) (sym (S .links))
+            (blocks-free (was .bytes) (was .links) (was .words) c A words m);
       }
 
 pub stepped : {q : Request} {text : List ℕ} {r : Reply} {was is : Slices}

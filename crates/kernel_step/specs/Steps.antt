@@ -14,6 +14,7 @@ use Rattle.call_steps.specs.declared.request.Reply.{Reply}
 use Rattle.call_steps.specs.Request.{answerOf}
 use Rattle.call_steps.specs.Paying.{terminatedBytes, paidWords}
 use Rattle.call_steps.specs.Run.{overlay}
+use Rattle.call_make.specs.Runs.{NewWereFree}
 use Rattle.kernel_step.specs.Slices.{Slices, Store, stateOf, callOn}
 use Rattle.kernel_step.specs.Ends.{scratchAfter, StepEnds}
 
@@ -44,6 +45,8 @@ pub record Steps (c : Call) (r : Reply) (was is : Slices) : Type 0 where
   pub buffer-is : is .buffer ≡ overlay (front r is) (was .buffer)
   pub scratch-is : is .scratch ≡ scratchAfter (op (c .number)) (r .code) (was .scratch)
   pub refused : Refuses c (r .code) was is
+  -- the blocks of an object that the call made were free
+  pub blocks : NewWereFree (was .links) (is .links)
 
 -- the promise, and beside it the exact run, which says where 01 leaves a choice what this kernel takes
 pub record Stepped (q : Request) (text : List ℕ) (r : Reply) (was is : Slices) : Type 0 where
