@@ -69,7 +69,7 @@ module _ {b l w : List ℕ} (P : Plain b l w) (c : Call) where
   entry-begins = entry-by b l w c BeginsOf (λ nz z. absurd (nz z)) (λ e z. begins-paid e z)
 
   -- as the code has it
-  pub enter-begins : {r : Entered} {b′ w′ : List ℕ} → entryOf r b′ w′ ≡ entry b l w c → r .code ≡ 0
+  pub enter-begins : (r : Entered) (b′ w′ : List ℕ) → entryOf r b′ w′ ≡ entry b l w c → r .code ≡ 0
       → Begins b′ l w′ c (r .me) (r .slot)
   unfolding entryOf
-  enter-begins q = subst BeginsOf (sym q) entry-begins
+  enter-begins r b′ w′ q = subst BeginsOf (sym q) entry-begins

@@ -6,20 +6,21 @@ use mathlib.Core.Bool.{Bool, true, false, not}
 use mathlib.Core.List.{List}
 use native.Mathlib.Omega.{arith}
 use lib.Dec.{ltb, eqb}
-use borrow.Author.Tests.{eq-eqb, ne-eqb}
+use borrow.Author.Tests.{eq-eqb, ne-eqb, ltb-false}
 use Rattle.rules.specs.Store.{State}
-use Rattle.rules.specs.Rights.{Op, op, feeOf, presents}
+use Rattle.rules.specs.Rights.{Op, op, feeOf, asked, presents}
 use Rattle.rules.specs.Call.{Call, Capability}
 use Rattle.rules.specs.Code as Code
 use Rattle.rules.specs.Password.{presented}
-use Rattle.rules.specs.Refusals.{inRange, caller, running, early}
+use Rattle.rules.specs.Refusals.{first, inRange, caller, running, early, showing, presenting}
+use Rattle.rules.proofs.Ready.{presenting-some, presenting-none}
 use Rattle.rules.proofs.Tests.{by-eq, pick-yes, pick-not}
 use Rattle.layout.specs.View.{view}
 use Rattle.layout.specs.WellFormed.{Plain}
 use Rattle.call_steps.specs.Paying.{terminatedBytes, paidWords, Pays}
 use Rattle.call_steps.specs.Run.{Process}
 use Rattle.call_steps.proofs.Entering.{early-range, early-running, early-poor, early-none, running-process}
-use Rattle.call_steps.proofs.Charging.{poor-is, paid-plain}
+use Rattle.call_steps.proofs.Charging.{poor-is, fee-plain}
 use Rattle.call_enter.specs.Entry.{Entry, refused, shownSlot, shown, stoppedBytes, entered, entry}
 
 -- ---- 5 and 6
@@ -32,6 +33,32 @@ module _ (s : State) (me : ℕ) (x : Capability) (o : Op) where
   pub slot-none : presents o ≡ false → shownSlot s me x o ≡ 0
   unfolding shownSlot
   slot-none p = pick-not (presents o) (presented s me x) 0 p
+
+-- as the code has it: n and k are what `admit` gives
+module _ (b l w : List ℕ) (me : ℕ) (x : Capability) (o : Op) where
+  pub shown-some : presents o ≡ true → (n k : ℕ) → k ≡ presented (view b l w) me x
+      → n ≡ first (showing (view b l w) (presented (view b l w) me x) (asked o))
+      → record { code = n; me = me; slot = k; bytes = b; words = w } ≡ shown b l w me x o
+  unfolding shown
+  shown-some p n k e h =
+      let s : State = view b l w in
+      let slot : shownSlot s me x o ≡ presented s me x = slot-some s me x o p in
+      let code : n ≡ first (presenting s (shownSlot s me x o) o) =
+      h ∙ ap first (sym (presenting-some s (presented s me x) o p)) ∙ ap (λ i. first (presenting s i o)) (sym slot) in
+      λ d. record { code = code d; me = me; slot = (e ∙ sym slot) d; bytes = b; words = w }
+
+  pub shown-none : presents o ≡ false
+      → record { code = Code.done; me = me; slot = 0; bytes = b; words = w } ≡ shown b l w me x o
+  unfolding shown first
+  shown-none p =
+      let s : State = view b l w in
+      λ d. record {
+        code = ap first (sym (presenting-none s (shownSlot s me x o) o p)) d;
+        me = me;
+        slot = sym (slot-none s me x o p) d;
+        bytes = b;
+        words = w;
+      }
 
 -- ---- by what 2, 3 and 4 come to
 
@@ -76,7 +103,7 @@ module _ (b l w : List ℕ) (c : Call) (o : ℕ) (fits : inRange c ≡ true) (fo
       (early-running (view b l w) c fits (ap (running (view b l w)) (sym found) ∙ h)) (λ z. omega arith)
 
   module _ (runs : running (view b l w) o ≡ true) where
-    pub payer : Process b l o
+    payer : Process b l o
     payer = running-process b l w o runs
 
     runs-caller : running (view b l w) (caller (view b l w) c) ≡ true
@@ -118,9 +145,19 @@ module _ (b l w : List ℕ) (c : Call) (o : ℕ) (fits : inRange c ≡ true) (fo
         enter-paid = (λ d. shown (bytes-are d) l (words-are d) (found d) (c .presented) (op (c .number)))
             ∙ entry-pays b l w c goes
 
-        pub payer-paid : Process b′ l o
-        payer-paid = subst (λ x. Process x l o) (sym bytes-are) payer
+-- and after the fee
+module _ (b l w : List ℕ) (o : ℕ) (process : Process b l o) (fee : ℕ) {r : Bool} {b′ w′ : List ℕ}
+    (Q : Pays b w o fee r b′ w′) (e : r ≡ true) where
+  same-bytes : b′ ≡ b
+  same-bytes = Q .bytes ∙ pick-yes r b (terminatedBytes b o) e
 
-        pub plain-paid : Plain b l w → Plain b′ l w′
-        plain-paid W = subst (λ x. Plain x l w′) (sym bytes-are)
-            (subst (λ x. Plain b l x) (sym words-are) (paid-plain b l w W c goes))
+  fee-taken : w′ ≡ paidWords w o fee
+  fee-taken = Q .words ∙ pick-yes r (paidWords w o fee) w e
+
+  pub payer-paid : Process b′ l o
+  payer-paid = subst (λ x. Process x l o) (sym same-bytes) process
+
+  pub plain-paid : Plain b l w → Plain b′ l w′
+  plain-paid W = subst (λ x. Plain x l w′) (sym same-bytes)
+      (subst (λ x. Plain b l x) (sym fee-taken)
+      (fee-plain b l w W o fee process (ltb-false _ _ (poor-is b l w o process fee r (Q .enough) ∙ ap not e))))

@@ -155,7 +155,7 @@ open-kept s c h q = record { object = q .object; made = q .made; derived = q .de
 
 -- an own part that meets the rules wherever it begins
 abbrev pub OwnMeets : (List ℕ → Type 0) → OwnPart → List ℕ → Call → Type 0
-OwnMeets S part l c = {b w : List ℕ} {me k : ℕ} → Begins b l w c me k
+OwnMeets S part l c = (b w : List ℕ) (me k : ℕ) → Begins b l w c me k
     → MeetsIn S (view b l w) c me k (op (c .number)) (part b l w c me k (op (c .number)))
 
 module _ (S : List ℕ → Type 0) (part : OwnPart) {b l w : List ℕ} (P : Plain b l w) (kept : S l) {c : Call} (words : Words c)
@@ -231,7 +231,7 @@ module _ (S : List ℕ → Type 0) (part : OwnPart) {b l w : List ℕ} (P : Plai
     met-goes : first (presenting (view b l paidW) shown-slot (op (c .number))) ≡ 0
         → MeetsRule S entry c (part b l paidW c caller-slot shown-slot (op (c .number)))
     met-goes z = met-paid
-        (met-own S c caller-slot (paid-plain b l w P c e) kept (same-caller P c e) z (met (begins-paid P c e z)))
+        (met-own S c caller-slot (paid-plain b l w P c e) kept (same-caller P c e) z (met b paidW caller-slot shown-slot (begins-paid P c e z)))
 
   pub step-meets : MeetsRule S entry c (stepWith part b l w c)
   step-meets = step-by part l c b w (MeetsRule S entry c) met-stays met-four met-pays met-goes

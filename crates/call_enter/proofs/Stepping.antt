@@ -37,7 +37,7 @@ module _ (own : OwnPart) (l : List ℕ) (c : Call) where
   begins e z = Settled.goes-on (e .bytes) l (e .words) (ownOf e) z
 
   -- as the code has it
-  module _ {b w : List ℕ} {r : Entered} {b′ w′ : List ℕ} (q : entryOf r b′ w′ ≡ entry b l w c) where
+  module _ (b w : List ℕ) (r : Entered) (b′ w′ : List ℕ) (q : entryOf r b′ w′ ≡ entry b l w c) where
     pub step-stops : r .code ≢ 0 → over (r .code) b′ l w′ ≡ stepWith own b l w c
     unfolding entryOf stepWith
     step-stops nz = stops (entryOf r b′ w′) nz ∙ ap (goesOn own l c) q
