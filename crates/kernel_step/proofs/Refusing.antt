@@ -37,11 +37,11 @@ use Rattle.kernel_step.specs.Own.{ownRun}
 use Rattle.kernel_step.specs.Steps.{Refuses}
 
 -- the run leaves these slices
-abbrev Leaves : List ℕ → List ℕ → List ℕ → Ran → Type 0
+abbrev pub Leaves : List ℕ → List ℕ → List ℕ → Ran → Type 0
 Leaves b l w x = Store (slices (x .bytes) (x .links) (x .words) [] []) b l w
 
 -- where it is refused
-abbrev Refusing : List ℕ → List ℕ → List ℕ → Ran → Type 0
+abbrev pub Refusing : List ℕ → List ℕ → List ℕ → Ran → Type 0
 Refusing b l w x = x .answer .code ≢ 0 → Leaves b l w x
 
 module _ (b l w : List ℕ) where

@@ -25,6 +25,7 @@ use Rattle.call_steps.specs.Refuses.{Refuses}
 use Rattle.call_steps.specs.Replies as Shared
 use Rattle.call_steps.specs.Run.{Ran, over, overlay}
 use Rattle.call_steps.proofs.Meeting.{stopped, goes-on}
+use Rattle.call_enter.specs.Entry.{OwnPart}
 use Rattle.call_prune.specs.Scratch.{scratchLeft}
 use Rattle.call_delete.specs.Runs.{deleteRun}
 use Rattle.call_transfer.specs.Runs.{range, window, part, handed, readRun, Reads, ReadAsks}
@@ -34,8 +35,7 @@ use Rattle.call_mail.specs.Runs.{oldest, oldestBytes, receivedBytes, receivedWo
 use Rattle.call_mail.specs.Runs.{ReceiveAsks}
 use Rattle.call_mail.specs.Runs as Mail
 use Rattle.kernel_step.specs.Slices.{Slices, slices, Store, callOn}
-use Rattle.kernel_step.specs.Own.{ownRun}
-use Rattle.kernel_step.specs.Ends.{Replies, Hands, Receives, clears, scratchAfter, Ends, OwnEnds}
+use Rattle.kernel_step.specs.Ends.{Replies, Hands, Receives, clears, scratchAfter, Ends, OwnEndsOf}
 
 -- ---- replies
 
@@ -139,15 +139,15 @@ pub ends-of : {c : Call} {x y : Ran} {r : Reply} {was is : Slices} → Ends c x 
     → {b l w : List ℕ} → Ends c y r (slices b l w (was .buffer) (was .scratch)) is
 ends-of E e = let F = ends-same E e in record { replies = F .replies; store = F .store; scratch = F .scratch }
 
--- ---- an arm of the decision: m is the call's number
+-- ---- an arm of the decision, of any own part: m is the call's number
 
-module _ (q : Request) (text : List ℕ) (me k : ℕ) (was : Slices) (m : ℕ) (e : q .number ≡ m) where
+module _ (own : OwnPart) (q : Request) (text : List ℕ) (me k : ℕ) (was : Slices) (m : ℕ) (e : q .number ≡ m) where
   abbrev run : ℕ → Ran
-  run i = ownRun (was .bytes) (was .links) (was .words) (callOn q text was) me k (op i)
+  run i = own (was .bytes) (was .links) (was .words) (callOn q text was) me k (op i)
 
   arm : {r : Reply} {is : Slices} → Replies (run m .answer) r (was .buffer) (is .buffer)
       → Store is (run m .bytes) (run m .links) (run m .words)
-      → is .scratch ≡ scratchAfter (op m) (run m .answer .code) (was .scratch) → OwnEnds q text me k r was is
+      → is .scratch ≡ scratchAfter (op m) (run m .answer .code) (was .scratch) → OwnEndsOf own q text me k r was is
   unfolding callOf
   arm {r} {is} R S left = subst (λ i. Ends (callOn q text was) (run i) r was is) (sym e) (record {
     replies = R;
@@ -157,7 +157,7 @@ module _ (q : Request) (text : List ℕ) (me k : ℕ) (was : Slices) (m : ℕ) (
 
   -- the call gives a code alone
   over-arm : {n : ℕ} {r : Reply} {is : Slices} → Refuses n r → over n (is .bytes) (is .links) (is .words) ≡ run m
-      → is .buffer ≡ was .buffer → is .scratch ≡ scratchAfter (op m) n (was .scratch) → OwnEnds q text me k r was is
+      → is .buffer ≡ was .buffer → is .scratch ≡ scratchAfter (op m) n (was .scratch) → OwnEndsOf own q text me k r was is
   unfolding over code
   over-arm {n} {r} {is} R h same left = arm
       (replies-same h (subst (λ d. Replies (code n) r d (is .buffer)) same (replies-code (is .buffer) R)))
@@ -170,26 +170,26 @@ module _ (q : Request) (text : List ℕ) (me k : ℕ) (was : Slices) (m : ℕ) (
 
   pub arm-code : {n : ℕ} {r : Reply} {is : Slices} → clears (op m) ≡ false → Refuses n r
       → over n (is .bytes) (is .links) (is .words) ≡ run m → is .buffer ≡ was .buffer → is .scratch ≡ was .scratch
-      → OwnEnds q text me k r was is
+      → OwnEndsOf own q text me k r was is
   arm-code {n} free R h same kept = over-arm R h same (kept ∙ scratch-kept (op m) n (was .scratch) free)
 
   -- delete_cap
   pub arm-done : {n : ℕ} {r : Reply} {is : Slices} → clears (op m) ≡ true → n ≡ 0 → Refuses n r
       → over n (is .bytes) (is .links) (is .words) ≡ run m → is .buffer ≡ was .buffer
-      → is .scratch ≡ replicate (length (was .scratch)) 0 → OwnEnds q text me k r was is
+      → is .scratch ≡ replicate (length (was .scratch)) 0 → OwnEndsOf own q text me k r was is
   arm-done {n} all z R h same zeros = over-arm R h same (zeros ∙ sym (scratch-zeros (op m) n (was .scratch) all z))
 
   -- it gives more, and leaves the scratch
   pub arm-more : {r : Reply} {is : Slices} → clears (op m) ≡ false
       → Replies (run m .answer) r (was .buffer) (is .buffer)
       → Store is (run m .bytes) (run m .links) (run m .words) → is .scratch ≡ was .scratch
-      → OwnEnds q text me k r was is
+      → OwnEndsOf own q text me k r was is
   arm-more free R S kept = arm R S (kept ∙ scratch-kept (op m) (run m .answer .code) (was .scratch) free)
 
   -- it gives a reply with no bytes
   reply-arm : {r : Reply} {is : Slices} → Shared.Replies r (is .bytes) (is .links) (is .words) (run m)
       → is .buffer ≡ was .buffer → is .scratch ≡ scratchAfter (op m) (r .code) (was .scratch)
-      → OwnEnds q text me k r was is
+      → OwnEndsOf own q text me k r was is
   reply-arm {r} {is} R same left = arm
       (subst (λ d. Replies (run m .answer) r d (is .buffer)) same (replied R (is .buffer)))
       (record { bytes = R .bytes; links = R .links; words = R .words })
@@ -197,13 +197,13 @@ module _ (q : Request) (text : List ℕ) (me k : ℕ) (was : Slices) (m : ℕ) (
 
   pub arm-reply : {r : Reply} {is : Slices} → clears (op m) ≡ false
       → Shared.Replies r (is .bytes) (is .links) (is .words) (run m) → is .buffer ≡ was .buffer
-      → is .scratch ≡ was .scratch → OwnEnds q text me k r was is
+      → is .scratch ≡ was .scratch → OwnEndsOf own q text me k r was is
   arm-reply {r} free R same kept = reply-arm R same (kept ∙ scratch-kept (op m) (r .code) (was .scratch) free)
 
   -- rename_obj
   pub arm-cleared : {r : Reply} {is : Slices} → clears (op m) ≡ true
       → Shared.Replies r (is .bytes) (is .links) (is .words) (run m) → is .buffer ≡ was .buffer
-      → is .scratch ≡ scratchLeft (r .code) (was .scratch) → OwnEnds q text me k r was is
+      → is .scratch ≡ scratchLeft (r .code) (was .scratch) → OwnEndsOf own q text me k r was is
   unfolding scratchLeft scratchAfter
   arm-cleared {r} all R same left = reply-arm R same
       (left ∙ ap {B = List ℕ} (λ t. elim (t && eqb (r .code) 0) [ true ↦ replicate (length (was .scratch)) 0 | false ↦ was .scratch ])

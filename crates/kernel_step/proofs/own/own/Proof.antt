@@ -178,7 +178,7 @@ unfolding op callOf ownRun clears
 returns c =
     let m = c .before .before .before .before .before .before .before .before .before .before in
     let a = start (m .before) in
-    arm-reply (a .args .req) (a .args .text .now) (a .args .me) (a .args .k) (was a) 1 (m .match .keys1) refl
+    arm-reply ownRun (a .args .req) (a .args .text .now) (a .args .me) (a .args .k) (was a) 1 (m .match .keys1) refl
     (c .before .before .before .before .before .before .make-obj .ensures) refl refl
 
 same-length-4 : tie.Need-same-length-4
@@ -200,7 +200,7 @@ returns-2 c =
     let a = start (m .before) in
     let S = read-store (a .args .bytes .now) (a .args .links .now) (a .args .words .now) (a .args .buffer .now)
     (a .args .k) (a .args .req .range .start) (a .args .req .range .end) in
-    arm-more (a .args .req) (a .args .text .now) (a .args .me) (a .args .k) (was a) 2 (m .match .keys2) refl
+    arm-more ownRun (a .args .req) (a .args .text .now) (a .args .me) (a .args .k) (was a) 2 (m .match .keys2) refl
     (c .before .before .read .ensures) (record { bytes = S .bytes; links = S .links; words = S .words }) refl
 
 same-length-8 : tie.Need-same-length-8
@@ -217,7 +217,7 @@ unfolding op callOf ownRun clears
 returns-3 c =
     let m = c .before .before .before .before .before .before .before in
     let a = start (m .before) in
-    arm-code (a .args .req) (a .args .text .now) (a .args .me) (a .args .k) (was a) 3 (m .match .keys3) refl
+    arm-code ownRun (a .args .req) (a .args .text .now) (a .args .me) (a .args .k) (was a) 3 (m .match .keys3) refl
     (c .refused .ensures) (c .before .before .before .write .ensures) refl refl
 
 same-length-11 : tie.Need-same-length-11
@@ -228,7 +228,7 @@ unfolding op callOf ownRun clears infoRun told
 returns-4 c =
     let m = c .before .before in
     let a = start (m .before) in
-    arm-more (a .args .req) (a .args .text .now) (a .args .me) (a .args .k) (was a) 4 (m .match .keys4) refl
+    arm-more ownRun (a .args .req) (a .args .text .now) (a .args .me) (a .args .k) (was a) 4 (m .match .keys4) refl
     (c .cap-info .ensures (a .args .bytes .now) (a .args .links .now) (a .args .buffer .now))
     (record { bytes = refl; links = refl; words = refl }) refl
 
@@ -246,7 +246,7 @@ unfolding op callOf ownRun clears
 returns-5 c =
     let m = c .before .before .before .before .before .before .before .before in
     let a = start (m .before) in
-    arm-reply (a .args .req) (a .args .text .now) (a .args .me) (a .args .k) (was a) 5 (m .match .keys5) refl
+    arm-reply ownRun (a .args .req) (a .args .text .now) (a .args .me) (a .args .k) (was a) 5 (m .match .keys5) refl
     (c .before .before .before .before .derive-cap .ensures) refl refl
 
 same-length-15 : tie.Need-same-length-15
@@ -268,7 +268,7 @@ returns-6 c =
     let a = start (m .before) in
     let q = c .before .before .before .before .before .before .before .delete-cap .ensures in
     let z = deleted-code (a .args .bytes .now) (a .args .links .now) (a .args .words .now) (a .args .k) _ _ _ (q .run) in
-    arm-done (a .args .req) (a .args .text .now) (a .args .me) (a .args .k) (was a) 6 (m .match .keys6) refl
+    arm-done ownRun (a .args .req) (a .args .text .now) (a .args .me) (a .args .k) (was a) 6 (m .match .keys6) refl
     z (c .refused2 .ensures) (q .run) refl (q .zeros)
 
 same-length-19 : tie.Need-same-length-19
@@ -289,7 +289,7 @@ returns-7 c =
     let m = c .before .before .before .before .before .before .before .before .before .before .before in
     let a = start (m .before) in
     let q = c .before .before .before .before .before .before .rename-obj .ensures in
-    arm-cleared (a .args .req) (a .args .text .now) (a .args .me) (a .args .k) (was a) 7 (m .match .keys7) refl
+    arm-cleared ownRun (a .args .req) (a .args .text .now) (a .args .me) (a .args .k) (was a) 7 (m .match .keys7) refl
     (q .replies) refl (q .scratch-left)
 
 same-length-23 : tie.Need-same-length-23
@@ -303,7 +303,7 @@ unfolding op callOf ownRun clears
 returns-8 c =
     let m = c .before .before .before .before .before .before in
     let a = start (m .before) in
-    arm-code (a .args .req) (a .args .text .now) (a .args .me) (a .args .k) (was a) 8 (m .match .keys8) refl
+    arm-code ownRun (a .args .req) (a .args .text .now) (a .args .me) (a .args .k) (was a) 8 (m .match .keys8) refl
     (c .refused3 .ensures) (c .before .before .before .withdraw .ensures (a .args .bytes .now)) refl refl
 
 same-length-25 : tie.Need-same-length-25
@@ -317,7 +317,7 @@ unfolding op callOf ownRun clears
 returns-9 c =
     let m = c .before .before .before .before .before .before in
     let a = start (m .before) in
-    arm-code (a .args .req) (a .args .text .now) (a .args .me) (a .args .k) (was a) 9 (m .match .keys9) refl
+    arm-code ownRun (a .args .req) (a .args .text .now) (a .args .me) (a .args .k) (was a) 9 (m .match .keys9) refl
     (c .refused4 .ensures) (c .before .before .before .deposit .ensures (a .args .bytes .now)) refl refl
 
 same-length-27 : tie.Need-same-length-27
@@ -331,7 +331,7 @@ unfolding op callOf ownRun clears
 returns-10 c =
     let m = c .before .before .before .before .before .before in
     let a = start (m .before) in
-    arm-code (a .args .req) (a .args .text .now) (a .args .me) (a .args .k) (was a) 10 (m .match .keys10) refl
+    arm-code ownRun (a .args .req) (a .args .text .now) (a .args .me) (a .args .k) (was a) 10 (m .match .keys10) refl
     (c .refused5 .ensures) (c .before .before .before .suspend .ensures (a .args .words .now)) refl refl
 
 same-length-29 : tie.Need-same-length-29
@@ -345,7 +345,7 @@ unfolding op callOf ownRun clears
 returns-11 c =
     let m = c .before .before .before .before .before .before in
     let a = start (m .before) in
-    arm-code (a .args .req) (a .args .text .now) (a .args .me) (a .args .k) (was a) 11 (m .match .keys11) refl
+    arm-code ownRun (a .args .req) (a .args .text .now) (a .args .me) (a .args .k) (was a) 11 (m .match .keys11) refl
     (c .refused6 .ensures) (c .before .before .before .resume .ensures (a .args .words .now)) refl refl
 
 same-length-31 : tie.Need-same-length-31
@@ -362,7 +362,7 @@ unfolding op callOf ownRun clears
 returns-12 c =
     let m = c .before .before .before .before .before .before .before in
     let a = start (m .before) in
-    arm-code (a .args .req) (a .args .text .now) (a .args .me) (a .args .k) (was a) 12 (m .match .keys12) refl
+    arm-code ownRun (a .args .req) (a .args .text .now) (a .args .me) (a .args .k) (was a) 12 (m .match .keys12) refl
     (c .refused7 .ensures) (c .before .before .before .apply-lock .ensures) refl refl
 
 same-length-34 : tie.Need-same-length-34
@@ -379,7 +379,7 @@ unfolding op callOf ownRun clears
 returns-13 c =
     let m = c .before .before .before .before .before .before .before .before .before in
     let a = start (m .before) in
-    arm-code (a .args .req) (a .args .text .now) (a .args .me) (a .args .k) (was a) 13 (m .match .keys13) refl
+    arm-code ownRun (a .args .req) (a .args .text .now) (a .args .me) (a .args .k) (was a) 13 (m .match .keys13) refl
     (c .refused8 .ensures) (c .before .before .before .before .before .send .ensures) refl refl
 
 same-length-37 : tie.Need-same-length-37
@@ -397,7 +397,7 @@ returns-14 c =
     let m = c .before .before .before .before .before .before .before .before .before .before in
     let a = start (m .before) in
     let q = c .before .before .before .before .before .before .receive .ensures (a .args .links .now) in
-    arm-more (a .args .req) (a .args .text .now) (a .args .me) (a .args .k) (was a) 14 (m .match .keys14) refl
+    arm-more ownRun (a .args .req) (a .args .text .now) (a .args .me) (a .args .k) (was a) 14 (m .match .keys14) refl
     (q .replies) (record { bytes = q .bytes; links = q .links; words = q .words }) refl
 
 same-length-40 : tie.Need-same-length-40
@@ -408,7 +408,7 @@ unfolding op callOf ownRun clears
 returns-15 c =
     let m = c .before .before .before .before .before in
     let a = start (m .before) in
-    arm-code (a .args .req) (a .args .text .now) (a .args .me) (a .args .k) (was a) 15 (m .match .keys15) refl
+    arm-code ownRun (a .args .req) (a .args .text .now) (a .args .me) (a .args .k) (was a) 15 (m .match .keys15) refl
     (c .refused9 .ensures) (c .before .before .before .wait .ensures (a .args .links .now) (a .args .words .now)) refl refl
 
 same-length-41 : tie.Need-same-length-41
@@ -425,7 +425,7 @@ unfolding op callOf ownRun clears
 returns-16 c =
     let m = c .before .before .before .before .before .before .before .before .before in
     let a = start (m .before) in
-    arm-code (a .args .req) (a .args .text .now) (a .args .me) (a .args .k) (was a) 16 (m .match .keys16) refl
+    arm-code ownRun (a .args .req) (a .args .text .now) (a .args .me) (a .args .k) (was a) 16 (m .match .keys16) refl
     (c .refused10 .ensures) (c .before .before .before .before .before .revive .ensures) refl refl
 
 returns-17 : tie.Need-returns-17
