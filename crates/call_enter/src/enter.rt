@@ -32,7 +32,14 @@ pub struct Entered {
 }
 
 // 5 and 6, where the call with this number presents a capability; slot me is the caller's.
-fn show(bytes: &[u8], links: &[u16], words: &[u32], me: usize, number: u32, x: Capability) -> Entered
+fn show(
+    bytes: &[u8],
+    links: &[u16],
+    words: &[u32],
+    me: usize,
+    number: u32,
+    x: Capability,
+) -> Entered
     requires { ⌜ Plain (now bytes) (now links) (now words) ⌝ ∗ ⌜ Process (now bytes) (now links) me ⌝ }
     ensures { λ r. ⌜ entryOf r (now (bytes .entry)) (now (words .entry))
         ≡ shown (now (bytes .entry)) (now (links .entry)) (now (words .entry)) me (capabilityOf x) (op number) ⌝ }

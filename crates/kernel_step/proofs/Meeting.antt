@@ -73,4 +73,4 @@ module _ {b l w : List ℕ} {c : Call} {me k : ℕ} (shape : Shape l) (B : Begin
 
 pub step-meets : {b l w : List ℕ} {c : Call} → WellFormed b l w → Words c → MeetsRule Shape (view b l w) c (stepRun b l w c)
 unfolding stepRun
-step-meets f words = Entering.step-meets Shape ownRun (plain f) (f .shape) words (λ B. own-meets (f .shape) B)
+step-meets f words = Entering.step-meets Shape ownRun (plain f) (f .shape) words (λ b w me k B. own-meets (f .shape) B)

@@ -11,18 +11,20 @@ use Rattle.rules.specs.Rights.{Op, makeObj, read, write, capInfo, deriveCap, de
 use Rattle.rules.specs.Rights.{deposit, suspend, resume, applyLock, send, receive, wait, revive, unknown}
 use Rattle.rules.specs.Rights.{op, feeOf}
 use Rattle.rules.specs.Call.{Call, Choice, code, tells, handsOver}
-use Rattle.rules.specs.Refusals.{caller, early}
+use Rattle.rules.specs.Code as Code
+use Rattle.rules.specs.Refusals.{first, caller, early, presenting}
 use Rattle.rules.specs.Rule.{paid, late, rule, isDone}
 use Rattle.rules.proofs.Tests.{by-bool, by-eq, pick-yes, pick-not}
 use Rattle.rules.proofs.Ready.{early-low, late-high, slotOf}
 use Rattle.rules.proofs.Answers.{is-done}
 use Rattle.rules.proofs.Outcomes.{rule-by}
 use Rattle.layout.specs.Rows.{parentOf}
+use Rattle.layout.specs.View.{view}
 use Rattle.call_steps.specs.Paying.{terminatedBytes, paidWords}
 use Rattle.call_steps.specs.Replies as Replies
 use Rattle.call_steps.specs.Run.{Ran, over, settled}
 use Rattle.call_steps.proofs.Meeting.{stopped, goes-on}
-use Rattle.call_enter.specs.Entry.{OwnPart, stepWith}
+use Rattle.call_enter.specs.Entry.{shownSlot, OwnPart, stepWith}
 use Rattle.call_enter.proofs.Stepping.{step-by}
 use Rattle.call_marks.specs.Runs.{suspendedRun, lockRun, waitRun, reviveRun, infoRun, told}
 use Rattle.call_purse.specs.Calls.{withdrawRun, depositRun}
@@ -76,7 +78,7 @@ module _ (b l w : List ℕ) where
   own-leaves c me k receive = settled-leaves _ _ refl
   own-leaves c me k wait = λ nz. absurd (nz refl)
   own-leaves c me k revive = settled-leaves _ _ refl
-  own-leaves c me k unknown = λ nz. absurd (nz refl)
+  own-leaves c me k unknown = λ _. over-leaves Code.outOfRange
 
 -- ---- by the code that the rules answer
 
@@ -101,6 +103,9 @@ module _ (own : OwnPart) (leaves : OwnLeaves own) (was : Slices) (c : Call) (h :
   abbrev w′ : List ℕ
   w′ = paidWords (was .words) (caller s c) (feeOf (c .number))
 
+  abbrev k : ℕ
+  k = shownSlot (view (was .bytes) (was .links) w′) (caller s c) (c .presented) (op (c .number))
+
   abbrev Left : Ran → Type 0
   Left x = rule s c h .answer .code ≡ x .answer .code
       → Refuses c (x .answer .code) was (slices (x .bytes) (x .links) (x .words) buffer scratch)
@@ -114,8 +119,8 @@ module _ (own : OwnPart) (leaves : OwnLeaves own) (was : Slices) (c : Call) (h :
         nothing = λ some low. absurd (omega (arith, high (λ z. omega arith)));
         marks = λ four. absurd (omega (arith, high (λ z. omega arith)));
         fee = λ many.
-            let k = stays (λ z. omega arith) in
-            record { bytes = k .bytes; links = k .links; words = k .words };
+            let same = stays (λ z. omega arith) in
+            record { bytes = same .bytes; links = same .links; words = same .words };
       }
 
   pub step-leaves : Left (stepWith own (was .bytes) (was .links) (was .words) c)
@@ -131,5 +136,8 @@ module _ (own : OwnPart) (leaves : OwnLeaves own) (was : Slices) (c : Call) (h :
         marks = λ _. record { bytes = refl; links = refl; words = refl };
         fee = λ high. absurd (omega arith);
       })
-      (λ e nz. paid-left _ e (λ _. over-leaves (was .bytes) (was .links) w′ _))
-      (λ e z. paid-left _ e (leaves (was .bytes) (was .links) w′ c _ _ (op (c .number))))
+      (λ e nz.
+      let n : ℕ = first (presenting (view (was .bytes) (was .links) w′) k (op (c .number))) in
+      paid-left (over n (was .bytes) (was .links) w′) e (λ _. over-leaves (was .bytes) (was .links) w′ n))
+      (λ e z. paid-left (own (was .bytes) (was .links) w′ c (caller s c) k (op (c .number))) e
+      (leaves (was .bytes) (was .links) w′ c (caller s c) k (op (c .number))))

@@ -13,6 +13,8 @@ use borrow.Author.Tests.{eq-eqb, ne-eqb}
 use Rattle.rules.specs.Store.{State}
 use Rattle.rules.specs.Rights.{Op, op}
 use Rattle.rules.specs.Call.{Call, Answer, code, handsOver}
+use Rattle.rules.specs.Code as Code
+use Rattle.rules.specs.Limit as Limit
 use Rattle.rules.specs.Refusals.{_when_, first}
 use Rattle.rules.specs.Calls.{liesIn}
 use Rattle.rules.proofs.Tests.{by-bool, by-eq, pick-yes, pick-not}
@@ -223,9 +225,9 @@ module _ (b l w buffer : List ℕ) (k start end : ℕ) where
   abbrev bytes-read : List ℕ
   bytes-read = part b l (ownerOf l k) start end
 
-  outside : liesIn (range start end) (window w k) ≡ false → over 7 b l w ≡ readRun b l w k start end
+  outside : liesIn (range start end) (window w k) ≡ false → over Code.outsideWindow b l w ≡ readRun b l w k start end
   unfolding readRun
-  outside h = stopped b l w (handed bytes-read b l w) 7 (inside-no w k start end h) (omega arith)
+  outside h = stopped b l w (handed bytes-read b l w) Code.outsideWindow (inside-no w k start end h) (omega arith)
 
   within : liesIn (range start end) (window w k) ≡ true → handed bytes-read b l w ≡ readRun b l w k start end
   unfolding readRun
@@ -262,7 +264,7 @@ module _ (b l w buffer : List ℕ) (k start end : ℕ) where
   read-refused {n} {r} {after} d nz R = by-bool (liesIn (range start end) (window w k))
       (λ h. absurd (nz (d .code ∙ ap (λ (x : Ran). x .answer .code) (sym (within h)))))
       (λ h.
-      let is : n ≡ 7 = d .code ∙ ap (λ (x : Ran). x .answer .code) (sym (outside h)) in
+      let is : n ≡ Code.outsideWindow = d .code ∙ ap (λ (x : Ran). x .answer .code) (sym (outside h)) in
       let same : after ≡ buffer = d .buffer-is ∙ ap (λ (x : Ran). overlay (x .answer .bytes) buffer) (sym (outside h)) in
       replies-same (outside h)
       (subst (λ i. Replies (code i) r buffer after) is
@@ -274,9 +276,9 @@ module _ {b w buffer : List ℕ} {me : ℕ} (A : ReceiveAsks b w buffer me) (l :
   abbrev taken : Ran
   taken = answered 0 (sumOf w (oldest me)) (oldestBytes b me) (receivedBytes b me) l (receivedWords w me)
 
-  empty : countOf b me ≡ 0 → over 15 b l w ≡ receiveRun b l w me
+  empty : countOf b me ≡ 0 → over Code.boxEmpty b l w ≡ receiveRun b l w me
   unfolding receiveRun receiveStop first _when_
-  empty z = stopped b l w taken 15 (rw (eq-eqb (countOf b me) 0 z) refl) (omega arith)
+  empty z = stopped b l w taken Code.boxEmpty (rw (eq-eqb (countOf b me) 0 z) refl) (omega arith)
 
   some : countOf b me ≢ 0 → taken ≡ receiveRun b l w me
   unfolding receiveRun receiveStop first _when_
@@ -284,7 +286,7 @@ module _ {b w buffer : List ℕ} {me : ℕ} (A : ReceiveAsks b w buffer me) (l :
 
   module _ {n sum count : ℕ} {b′ w′ buffer′ : List ℕ}
       (M : Mail.Receives b w buffer me n sum count b′ w′ buffer′) where
-    pub receive-count : count ≤ 16
+    pub receive-count : count ≤ Limit.message
     unfolding answered over code
     receive-count =
         let long : length (receiveRun b l w me .answer .bytes) ≡ count =

@@ -10,6 +10,7 @@ use call_enter::enter::enter;
 use call_steps::request::Reply;
 use call_steps::request::Request;
 use own::own;
+use values::code::DONE;
 
 // Any call, done or refused; `text` are write's data or send's message.
 pub fn step(
@@ -26,9 +27,27 @@ pub fn step(
         (slices (now (bytes .entry)) (now (links .entry)) (now (words .entry)) (now (buffer .entry)) (now (scratch .entry)))
         (slices (now (bytes .exit)) (now (links .exit)) (now (words .exit)) (now (buffer .exit)) (now (scratch .exit))) ⌝ }
 {
-    let e = enter(bytes, links, words, req, text.len(), buffer.len(), scratch.len());
-    if e.code == 0 {
-        return own(bytes, links, words, text, buffer, scratch, e.me, e.slot, req);
+    let e = enter(
+        bytes,
+        links,
+        words,
+        req,
+        text.len(),
+        buffer.len(),
+        scratch.len(),
+    );
+    if e.code == DONE {
+        return own(
+            bytes,
+            links,
+            words,
+            text,
+            buffer,
+            scratch,
+            e.me,
+            e.slot,
+            req,
+        );
     }
     Reply::refused(e.code)
 }

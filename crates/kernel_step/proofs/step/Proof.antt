@@ -1,38 +1,30 @@
--- `step` is refused by 2, 3 or 4, or pays the fee and goes on.
-use Prim.Native.Nat.{ℕ, _≤_}
-use mathlib.Core.Path.{_≡_, refl, sym, _∙_}
-use mathlib.Core.Bool.{true}
+-- `step` is entered, then refused, or goes on to the call's own part.
+use Prim.Native.Nat.{ℕ}
+use mathlib.Core.Path.{_≡_, refl}
 use native.Mathlib.Omega.{arith}
 use mir.Val.{Fits}
 use mir.Syntax.{w32}
 use lib.ListN.{getD}
 use borrow.Author.Needs.{needs, elem-fits-field}
 use Rattle.rules.specs.Call.{Call}
-use Rattle.rules.specs.Refusals.{inRange, caller, running}
 use Rattle.rules.specs.Demand.{Words}
+use Rattle.layout.proofs.Plain.{plain}
 use Rattle.call_steps.specs.declared.request.Reply.{Reply}
 use Rattle.call_steps.specs.Request.{callOf}
-use Rattle.call_steps.specs.Run.{Process}
-use Rattle.call_steps.proofs.Callers.{found-high}
-use Rattle.call_steps.proofs.Charging.{can-pay}
-use Rattle.kernel_step.specs.Slices.{Slices, slices, callOn, stateOf}
+use Rattle.call_enter.specs.Entry.{entry}
+use Rattle.call_enter.specs.Enters.{entryOf}
+use Rattle.call_enter.proofs.Beginning.{enter-begins}
+use Rattle.call_enter.proofs.Stepping.{step-stops, step-begins}
+use Rattle.kernel_step.specs.Slices.{Slices, slices, callOn}
+use Rattle.kernel_step.specs.Own.{ownRun}
+use Rattle.kernel_step.specs.Run.{stepRun}
 use Rattle.kernel_step.specs.Ends.{StepEnds}
 use Rattle.kernel_step.specs.Steps.{Stepped}
+use Rattle.kernel_step.proofs.Asked.{own-asks}
 use Rattle.kernel_step.proofs.Promising.{stepped}
 use Rattle.kernel_step.proofs.Replying.{ends-refused, ends-of}
-use Rattle.kernel_step.proofs.Entering.{two-run, three-run, four-run, payer, late-run, late-asks}
 use Rattle.kernel_step.proofs.step.Statement.{statement}
 use Rattle.kernel_step.proofs.step.Tie as tie
-
--- from the place where the ranges are tested, the caller is looked up, and it is known whether it runs
-abbrev start : tie.After-in-range → tie.Start
-start c = c .before .before .before .before .before .before .before
-
-abbrev tested : tie.After-find-object → tie.After-in-range
-tested c = c .before .before .before .before
-
-abbrev found : tie.After-running → tie.After-find-object
-found c = c .before .before .before
 
 abbrev was : tie.Start → Slices
 was a = slices (a .args .bytes .now) (a .args .links .now) (a .args .words .now) (a .args .buffer .now)
@@ -72,3 +64,87 @@ promised : (a : tie.Start) {r : Reply} {is : Slices} → StepEnds (a .args .req)
     → Stepped (a .args .req) (a .args .text .now) r (was a) is
 promised a E = stepped (a .pre) (words a) E
 
+-- from the place where the call is entered
+abbrev start : tie.After-enter → tie.Start
+start e = e .before .before .before .before .before .before .before .before .before .before
+
+entered : (e : tie.After-enter) → entryOf (e .enter .result) (e .enter .last .0) (e .enter .last .1 .1 .0)
+    ≡ entry (start e .args .bytes .now) (start e .args .links .now) (start e .args .words .now) (call (start e))
+entered e = e .enter .ensures (start e .args .text .now) refl
+
+enter-requires : tie.Need-enter-requires
+enter-requires c κs = plain (c .before .before .before .before .before .before .before .before .before .pre)
+
+own-requires : tie.Need-own-requires
+own-requires c κs =
+    let t = c .before .before .before .before .before in
+    let e = t .before .before .before .before .before .before in
+    let a = start e in
+    own-asks (a .pre .shape) (enter-begins (plain (a .pre)) (call a) (e .enter .result) (e .enter .last .0)
+    (e .enter .last .1 .1 .0) (entered e) (t .if1 .taken))
+
+same-length : tie.Need-same-length
+same-length c = search needs
+
+same-length-2 : tie.Need-same-length-2
+same-length-2 c = search needs
+
+same-length-3 : tie.Need-same-length-3
+same-length-3 c = search needs
+
+same-length-4 : tie.Need-same-length-4
+same-length-4 c = search needs
+
+same-length-5 : tie.Need-same-length-5
+same-length-5 c = search needs
+
+returns : tie.Need-returns
+unfolding callOf stepRun
+returns c =
+    let o = c .before .before .before .before .before .before .before .before .before .before in
+    let t = o .before .before .before .before .before .before in
+    let e = t .before .before .before .before .before .before in
+    let a = start e in
+    promised a (ends-of (o .own .ensures)
+    (step-begins ownRun (a .args .links .now) (call a) (a .args .bytes .now) (a .args .words .now) (e .enter .result)
+    (e .enter .last .0) (e .enter .last .1 .1 .0) (entered e) (t .if1 .taken)))
+
+refused-requires : tie.Need-refused-requires
+refused-requires c κs = search needs
+
+same-length-6 : tie.Need-same-length-6
+same-length-6 c = search needs
+
+same-length-7 : tie.Need-same-length-7
+same-length-7 c = search needs
+
+same-length-8 : tie.Need-same-length-8
+same-length-8 c = search needs
+
+returns-2 : tie.Need-returns-2
+unfolding callOf stepRun
+returns-2 c =
+    let t = c .before in
+    let e = t .before .before .before .before .before .before in
+    let a = start e in
+    promised a (ends-refused (t .if1 .left) (c .refused .ensures)
+    (step-stops ownRun (a .args .links .now) (call a) (a .args .bytes .now) (a .args .words .now) (e .enter .result)
+    (e .enter .last .0) (e .enter .last .1 .1 .0) (entered e) (t .if1 .left)) refl refl)
+
+pub step-spec : {M : Type 1} → statement M
+step-spec =
+    tie.close
+    (tie.spec
+    enter-requires
+    own-requires
+    same-length
+    same-length-2
+    same-length-3
+    same-length-4
+    same-length-5
+    returns
+    refused-requires
+    same-length-6
+    same-length-7
+    same-length-8
+    returns-2)

@@ -87,9 +87,10 @@ show-requires c κs =
     let p = c .before .before .before .before .before .before .before in
     let t = p .before .before .before .before in
     let a = start (tested (found (t .before))) in
-    let paid = c .before .before .if3 .taken in
-    (plain-paid (a .args .bytes .now) (a .args .links .now) (a .args .words .now) _ (process t) _ (p .pay .ensures) paid (a .pre),
-    payer-paid (a .args .bytes .now) (a .args .links .now) (a .args .words .now) _ (process t) _ (p .pay .ensures) paid)
+    let paid = c .before .before .if3 .taken in (
+      plain-paid (a .args .bytes .now) (a .args .links .now) (a .args .words .now) _ (process t) _ (p .pay .ensures) paid (a .pre),
+      payer-paid (a .args .bytes .now) (a .args .links .now) (a .args .words .now) _ (process t) _ (p .pay .ensures) paid,
+    )
 
 same-length : tie.Need-same-length
 same-length c = search needs

@@ -49,10 +49,11 @@ returns c =
 right-held-requires : tie.Need-right-held-requires
 right-held-requires c κs =
     let f = c .before in
-    let a = start f in
-    (a .pre .0 .sized .links,
-    found-held (a .args .bytes .now) (a .args .links .now) (a .args .words .now) (a .args .me) (capabilityOf (a .args .x))
-    (f .present .result) (f .present .ensures) (c .if1 .left))
+    let a = start f in (
+      a .pre .0 .sized .links,
+      found-held (a .args .bytes .now) (a .args .links .now) (a .args .words .now) (a .args .me) (capabilityOf (a .args .x))
+          (f .present .result) (f .present .ensures) (c .if1 .left),
+    )
 
 returns-2 : tie.Need-returns-2
 returns-2 c =
