@@ -8,9 +8,8 @@ use lib.Dec.{eqb}
 use Rattle.rules.specs.Code as Code
 use Rattle.rules.specs.Store.{Object, Message, State, noObject}
 use Rattle.rules.specs.Rights.{Op, makeObj, read, write, capInfo, deriveCap, deleteCap, renameObj, withdraw}
-use Rattle.rules.specs.Rights.{deposit, suspend, resume, applyLock, send, receive, wait, revive, unknown, op, feeOf}
+use Rattle.rules.specs.Rights.{deposit, suspend, resume, applyLock, send, receive, wait, revive, unknown, op}
 use Rattle.rules.specs.Call.{Call, Choice, Outcome, done, handsBack, handsOver, tells}
-use Rattle.rules.specs.Password.{presented}
 use Rattle.rules.specs.Refusals.{caller, early, inRange}
 use Rattle.rules.specs.Update.{withHouse, withCash, withMarks, withCap, withMoney, withBox, withLock, withBytes}
 use Rattle.rules.specs.Changes.{earn, spend, toHouse, setSuspended, setWaiting, setTerminated, onClimb, newCap}
@@ -19,7 +18,6 @@ use Rattle.rules.specs.Calls.{readDoes, writeDoes, capInfoDoes, deriveCapDoes, 
 use Rattle.rules.specs.Calls.{withdrawDoes, depositDoes, suspendDoes, resumeDoes, applyLockDoes, sendDoes, receiveDoes}
 use Rattle.rules.specs.Calls.{waitDoes, reviveDoes, does}
 use Rattle.rules.specs.Rule.{stopped, paid, rule}
-use Rattle.rules.specs.Demand.{Words}
 use Rattle.rules.proofs.Tests.{by-bool, pick-yes, pick-not}
 use Rattle.rules.proofs.Slots.{at-by}
 use Rattle.rules.proofs.Ready.{slotOf}
@@ -27,17 +25,20 @@ use Rattle.rules.proofs.Outcomes.{rule-by}
 use Rattle.rules.proofs.Deleting.{delete-by}
 use Rattle.layout.specs.Rows.{masterOf}
 use Rattle.layout.specs.View.{view}
+use Rattle.layout.specs.Shape.{Shape}
 use Rattle.layout.specs.WellFormed.{WellFormed}
+use Rattle.layout.proofs.Plain.{plain}
 use Rattle.layout.proofs.Shown.{set-no, live-is, object-shown}
-use Rattle.call_steps.specs.Paying.{terminatedBytes, paidWords}
+use Rattle.call_steps.specs.Paying.{terminatedBytes}
 use Rattle.call_steps.specs.Run.{Ran, over}
+use Rattle.call_enter.proofs.Beginning.{begins-paid}
+use Rattle.call_enter.proofs.Meeting.{MeetsRule}
+use Rattle.call_enter.proofs.Stepping.{step-by}
 use Rattle.call_make.specs.Runs.{NewWereFree}
 use Rattle.call_make.proofs.Meets.{arguments-of, make-free}
 use Rattle.kernel_step.specs.Own.{ownRun}
-use Rattle.kernel_step.specs.Run.{lateRun, stepRun}
-use Rattle.kernel_step.proofs.Showing.{shown-by}
-use Rattle.kernel_step.proofs.Entering.{step-by}
-use Rattle.kernel_step.proofs.Meeting.{MeetsRule, paid-asks}
+use Rattle.kernel_step.specs.Run.{stepRun}
+use Rattle.kernel_step.proofs.Asked.{own-asks}
 
 -- ---- in the rules only make_obj makes an object
 
@@ -99,7 +100,7 @@ rule-new s c h q z = rule-by s c h (λ r. r .after .object q .live ≡ true → 
 
 -- ---- the run of make_obj takes free blocks
 
-module _ (b l w : List ℕ) (c : Call) (W : WellFormed b l w) (words : Words c) where
+module _ (b l w : List ℕ) (c : Call) (W : WellFormed b l w) where
   abbrev Free : Ran → Type 0
   Free x = op (c .number) ≡ makeObj → NewWereFree l (x .links)
 
@@ -113,29 +114,17 @@ module _ (b l w : List ℕ) (c : Call) (W : WellFormed b l w) (words : Words c) 
   own-free w′ F r me k e = subst (λ (o : Op). NewWereFree l (ownRun b l w′ c me k o .links)) (sym e)
       (make-free F c me k (arguments-of c e r))
 
-  abbrev me : ℕ
-  me = caller (view b l w) c
-
-  abbrev w′ : List ℕ
-  w′ = paidWords w me (feeOf (c .number))
-
-  late-free : early (view b l w) c ≡ 0 → Free (lateRun b l w′ c me)
-  unfolding lateRun
-  late-free e =
-      let A = paid-asks b l w c W words e in
-      let k : ℕ = presented (view b l w′) me (c .presented) in
-      shown-by b l w′ c me k Free
-      (λ f. stays Code.notFound b w′)
-      (λ f. stays Code.rightMissing b w′)
-      (λ f g. own-free w′ (A .formed) (A .range) me k)
-
   step-free : Free (stepRun b l w c)
-  step-free = step-by b l w c Free
+  unfolding stepRun
+  step-free = step-by ownRun l c b w Free
       (λ nz n4. stays (early (view b l w) c) b w)
-      (λ e. stays Code.cannotPay (terminatedBytes b me) w)
-      late-free
+      (λ e. stays Code.cannotPay (terminatedBytes b (caller (view b l w) c)) w)
+      (λ e nz. stays _ b _)
+      (λ e f.
+      let B = begins-paid (plain W) c e f in
+      own-free _ (own-asks (W .shape) B .late .formed) (B .range) _ _)
 
-  pub blocks-free : MeetsRule (view b l w) c (stepRun b l w c) → NewWereFree l (stepRun b l w c .links)
+  pub blocks-free : MeetsRule Shape (view b l w) c (stepRun b l w c) → NewWereFree l (stepRun b l w c .links)
   blocks-free m q z nz =
       let x : Ran = stepRun b l w c in
       let made = rule-new (view b l w) c (m .choice) q (live-is b l w q ∙ set-no (masterOf l q) z)

@@ -16,7 +16,7 @@ use Rattle.rules.specs.Rights.{has, Op, makeObj, read, write, capInfo, d
 use Rattle.rules.specs.Rights.{deposit, suspend, resume, applyLock, send, receive, wait, revive, unknown, feeOf}
 use Rattle.rules.specs.Rights.{asked, presents}
 use Rattle.rules.specs.Call.{Call}
-use Rattle.rules.specs.Refusals.{Refusal, _when_, first, inRange, caller, running, early, presenting}
+use Rattle.rules.specs.Refusals.{Refusal, _when_, first, inRange, caller, running, early, presenting, showing}
 use Rattle.rules.specs.Calls.{liesIn, p1Taken, makeObjRefuses, transferRefuses, deriveCapRefuses, renameObjRefuses}
 use Rattle.rules.specs.Calls.{withdrawRefuses, depositRefuses, processRefuses, sendRefuses, receiveRefuses}
 use Rattle.rules.specs.Calls.{reviveRefuses, refuses}
@@ -34,7 +34,7 @@ eqb-same a b c d f g = bool-same (eqb a b) (eqb c d)
 
 -- 5 where none is found
 five : (s : State) (k : ℕ) (o : Op) (l : List Refusal) → presents o ≡ true → k ≡ 0 → first (presenting s k o ++ l) ≡ Code.notFound
-unfolding presenting first _when_
+unfolding presenting showing first _when_
 five s k o l p z =
     let r : List Refusal = Code.notFound when eqb k 0 ∷ Code.rightMissing when not (has (s .cap k .rights) (asked o)) ∷ [] in
     ap (λ x. first (x ++ l)) (pick-yes (presents o) r [] p) ∙ pick-yes (eqb k 0) Code.notFound _ (eq-eqb k 0 z)
@@ -131,7 +131,7 @@ module _ {m : Maps} (s t : State) (S : Formed s) (T : Formed t) (A : CarriedBy m
       -- ---- 6, and the calls' own
 
       presenting-same : (o : Op) → presenting t k′ o ≡ presenting s k o
-      unfolding presenting
+      unfolding presenting showing
       presenting-same o =
           let a : eqb k′ 0 ≡ eqb k 0 = ap (λ x. eqb x 0) k-is ∙ zero-same (m .cap) (A .moves .no-cap) k some in
           let b = ap (λ (x : Cap). x .rights) cap-k in
@@ -236,7 +236,7 @@ module _ {m : Maps} (s t : State) (S : Formed s) (T : Formed t) (A : CarriedBy m
 
     pub late-carried : (k ≢ 0 → Lives (s .cap) k) → (o : Op)
         → first (presenting t k′ o ++ refuses t c me′ k′ o) ≡ first (presenting s k o ++ refuses s c me k o)
-    unfolding presenting
+    unfolding presenting showing
     late-carried h o = by-bool (presents o)
         (λ p. by-eq k 0
         (λ z. five t k′ o _ p (k-is ∙ ap (m .cap) z ∙ A .moves .no-cap) ∙ sym (five s k o _ p z))
