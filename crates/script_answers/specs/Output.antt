@@ -5,6 +5,7 @@ use mathlib.Core.Bool.{true, false}
 use mathlib.Core.List.{List, [], _∷_, _++_}
 use lib.Dec.{eqb}
 use lib.ListN.{length}
+use Rattle.rules.specs.Code as Code
 use Rattle.rules.specs.Store.{State, fresh}
 use Rattle.rules.specs.Rights.{op}
 use Rattle.rules.specs.Call.{Outcome}
@@ -23,10 +24,10 @@ transcript k s (l ∷ ls) =
 
 -- "Line one is supply, p1, p2; if bad or absent, `0 2` is all it writes."
 unfoldable pub output : List (List ℕ) → List ℕ
-output [] = lineOf (0 ∷ 2 ∷ [])
+output [] = lineOf (0 ∷ Code.outOfRange ∷ [])
 output (l ∷ ls) = elim (eqb (length l) 3) [
   | true ↦ transcript 1 (fresh (nth l 0) (record { p1 = nth l 1; p2 = nth l 2 })) ls
-  | false ↦ lineOf (0 ∷ 2 ∷ [])
+  | false ↦ lineOf (0 ∷ Code.outOfRange ∷ [])
 ]
 
 -- the lines have these numbers, line by line
