@@ -94,7 +94,8 @@ module _ {b l w : List ℕ} {name : Name} {size flag rights : ℕ} (a : MakeAsks
   name-refused drawn h R = refused-is drawn Code.taken (omega arith) (stop-name b l w name size h) R
 
   pub space-refused : (drawn : Password) {r : Reply} → objectNamed (view b l w) name ≡ 0
-      → noSpace l (blocks size) ≡ true → Refuses Code.noSpace r → Replies r b l w (makeRun b l w name size flag rights drawn)
+      → noSpace l (blocks size) ≡ true → Refuses Code.noSpace r
+      → Replies r b l w (makeRun b l w name size flag rights drawn)
   space-refused drawn z h R = refused-is drawn Code.noSpace (omega arith) (stop-space b l w name size z h) R
 
   pub made-is : {drawn : Password} {r : Reply} (o : ℕ) → o ≡ freeObject l → objectNamed (view b l w) name ≡ 0

@@ -52,7 +52,8 @@ module _ (b l w : List ℕ) (name : Name) (size : ℕ) where
   unfolding makeStop first _when_
   stop-name h = rw (ne-eqb (objectNamed (view b l w) name) 0 h, first)
 
-  pub stop-space : objectNamed (view b l w) name ≡ 0 → noSpace l (blocks size) ≡ true → makeStop b l w name size ≡ Code.noSpace
+  pub stop-space : objectNamed (view b l w) name ≡ 0 → noSpace l (blocks size) ≡ true
+      → makeStop b l w name size ≡ Code.noSpace
   unfolding makeStop first _when_
   stop-space z h = rw (eq-eqb (objectNamed (view b l w) name) 0 z, h, first)
 

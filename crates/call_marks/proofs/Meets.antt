@@ -75,7 +75,8 @@ module _ {b l w : List ℕ} (f : Plain b l w) (c : Call) (me k : ℕ) where
 
   -- ---- apply_lock
 
-  pub apply-lock-meets : Held l k → op (c .number) ≡ applyLock → MeetsPlain l s c me k applyLock (lockRun b l w k (c .lock))
+  pub apply-lock-meets : Held l k → op (c .number) ≡ applyLock
+      → MeetsPlain l s c me k applyLock (lockRun b l w k (c .lock))
   unfolding takes refuses does applyLockDoes lockRun
   apply-lock-meets h e =
       let T = target-of f h in

@@ -1,5 +1,5 @@
--- What the code asks is so in a well-formed store, whatever the links of its trees. Beside lengths and slots, a window's ends are in order, and the cash
--- that a sum is moved to has room for it, since the money total stays.
+-- What the code asks is so in a well-formed store, whatever the links of its trees. Beside lengths and slots, a window's
+-- ends are in order, and the cash that a sum is moved to has room for it, since the money total stays.
 use Prim.Native.Nat.{ℕ, _+_, _≤_}
 use mathlib.Core.Path.{_≡_, ap, _∙_}
 use mathlib.Core.List.{List}

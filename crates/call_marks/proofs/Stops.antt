@@ -97,7 +97,8 @@ module _ {b l w : List ℕ} {me k sum o : ℕ} {p : Bool} (R : Reviving b l w me
   -- with its four tests as they came out, or as they stand
   revive-stop : {f t z q : Bool} → p ≡ f → isSet (getD b (Layout.TERMINATED + o) 0) ≡ t → eqb sum 0 ≡ z
       → ltb (getD w (Layout.CASH + me) 0) sum ≡ q
-      → reviveStop b l w me k sum ≡ first (Code.notProcess when not f ∷ Code.notRevivable when (not t || z) ∷ Code.tooLittle when q ∷ [])
+      → reviveStop b l w me k sum
+      ≡ first (Code.notProcess when not f ∷ Code.notRevivable when (not t || z) ∷ Code.tooLittle when q ∷ [])
   unfolding reviveStop
   revive-stop f t z q =
       let s = R .target .slot in
@@ -114,8 +115,8 @@ module _ {b l w : List ℕ} {me k sum o : ℕ} {p : Bool} (R : Reviving b l w me
 
   pub revive-met : (n : ℕ) {f t z q : Bool} → p ≡ f → isSet (getD b (Layout.TERMINATED + o) 0) ≡ t → eqb sum 0 ≡ z
       → ltb (getD w (Layout.CASH + me) 0) sum ≡ q
-      → first (Code.notProcess when not f ∷ Code.notRevivable when (not t || z) ∷ Code.tooLittle when q ∷ []) ≡ n → n ≢ 0
-      → over n b l w ≡ reviveRun b l w me k sum
+      → first (Code.notProcess when not f ∷ Code.notRevivable when (not t || z) ∷ Code.tooLittle when q ∷ []) ≡ n
+      → n ≢ 0 → over n b l w ≡ reviveRun b l w me k sum
   unfolding reviveRun
   revive-met n f t z q e ne = stopped b l w _ n (revive-stop f t z q ∙ e) ne
 

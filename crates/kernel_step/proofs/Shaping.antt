@@ -1,5 +1,5 @@
--- Links that a call leaves alone keep their shape: so the calls that write no link, whose laws say nothing of trees, meet
--- the rules on a well-formed store.
+-- Links that a call leaves alone keep their shape: so the calls that write no link, whose laws say nothing of trees,
+-- meet the rules on a well-formed store.
 use Prim.Native.Nat.{ℕ}
 use mathlib.Core.Path.{sym, subst}
 use mathlib.Core.List.{List}

@@ -1,5 +1,5 @@
--- The blocks of an object that a call makes were free: only make_obj makes one, and its run takes them from the chain of
--- free blocks.
+-- The blocks of an object that a call makes were free: only make_obj makes one, and its run takes them from the chain
+-- of free blocks.
 use Prim.Native.Nat.{ℕ}
 use mathlib.Core.Path.{_≡_, refl, sym, ap, _∙_, subst}
 use mathlib.Core.Bool.{true, false, false≢true}
@@ -62,7 +62,8 @@ module _ (s : State) (c : Call) (me k : ℕ) (h : Choice) (q : ℕ) (z : s .obje
   does-new : (o : Op) → does s c me k h o .after .object q .live ≡ true → o ≡ makeObj
   unfolding does readDoes writeDoes capInfoDoes deriveCapDoes renameObjDoes withdrawDoes depositDoes suspendDoes
       resumeDoes applyLockDoes sendDoes waitDoes reviveDoes done handsBack handsOver tells emptied endWhere earn spend
-      onClimb newCap withCash withMoney withCap withBytes withLock withBox setSuspended setWaiting setTerminated withMarks
+      onClimb newCap withCash withMoney withCap withBytes withLock withBox setSuspended setWaiting setTerminated
+      withMarks
   does-new makeObj a = refl
   does-new read a = none a
   does-new write a = none a
