@@ -1,11 +1,11 @@
 -- What is known where no refusal up to 6 is met: the slices that the fee left, the caller, the capability presented.
 use Prim.Native.Nat.{ℕ}
 use mathlib.Core.Path.{_≡_, refl, sym, ap, _∙_, subst}
-use mathlib.Core.Bool.{true, false}
+use mathlib.Core.Bool.{true}
 use mathlib.Core.List.{List}
 use native.Mathlib.Omega.{arith}
 use Rattle.rules.specs.Store.{State, objectNamed}
-use Rattle.rules.specs.Rights.{Op, op, feeOf}
+use Rattle.rules.specs.Rights.{op, feeOf}
 use Rattle.rules.specs.Call.{Call}
 use Rattle.rules.specs.Refusals.{first, inRange, caller, early, presenting}
 use Rattle.rules.specs.Update.{withHouse, withCash}

@@ -15,7 +15,7 @@ use Rattle.rules.specs.Rights.{op, feeOf, presents}
 use Rattle.rules.specs.Call.{Call, Outcome, Choice, code}
 use Rattle.rules.specs.Code as Code
 use Rattle.rules.specs.Password.{presented}
-use Rattle.rules.specs.Refusals.{Refusal, first, caller, early, presenting}
+use Rattle.rules.specs.Refusals.{first, caller, early, presenting}
 use Rattle.rules.specs.Update.{withHouse, withCash, withCap, withMoney}
 use Rattle.rules.specs.Changes.{spend, toHouse, endWhere}
 use Rattle.rules.specs.Calls.{makeObjRefuses, makeObjDoes, madeObject, madeMaster, receiveRefuses, receiveDoes, waitDoes}

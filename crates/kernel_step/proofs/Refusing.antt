@@ -13,14 +13,14 @@ use Rattle.rules.specs.Rights.{op, feeOf}
 use Rattle.rules.specs.Call.{Call, Choice, code, tells, handsOver}
 use Rattle.rules.specs.Code as Code
 use Rattle.rules.specs.Refusals.{first, caller, early, presenting}
-use Rattle.rules.specs.Rule.{paid, late, rule, isDone}
+use Rattle.rules.specs.Rule.{paid, rule, isDone}
 use Rattle.rules.proofs.Tests.{by-bool, by-eq, pick-yes, pick-not}
 use Rattle.rules.proofs.Ready.{early-low, late-high, slotOf}
 use Rattle.rules.proofs.Answers.{is-done}
 use Rattle.rules.proofs.Outcomes.{rule-by}
 use Rattle.layout.specs.Rows.{parentOf}
 use Rattle.layout.specs.View.{view}
-use Rattle.call_steps.specs.Paying.{terminatedBytes, paidWords}
+use Rattle.call_steps.specs.Paying.{paidWords}
 use Rattle.call_steps.specs.Replies as Replies
 use Rattle.call_steps.specs.Run.{Ran, over, settled}
 use Rattle.call_steps.proofs.Meeting.{stopped, goes-on}

@@ -1,5 +1,5 @@
 -- `show` asks the right where the call presents a capability.
-use mathlib.Core.Path.{_≡_, sym, ap, _∙_}
+use mathlib.Core.Path.{sym, ap, _∙_}
 use borrow.Author.Needs.{needs}
 use Rattle.rules.specs.Rights.{op}
 use Rattle.rules.specs.Password.{presented}
