@@ -1,4 +1,4 @@
--- The fee, from the slices to the rules: what paying leaves is the rules' state, well formed, and its sum fits a word.
+-- The fee, from the slices to the rules: what paying leaves is the rules' state, as sound as before, and its sum fits a word.
 use Prim.Native.Nat.{ℕ, suc, _+_, _-_, _≤_}
 use mathlib.Core.Path.{_≡_, refl, sym, ap, _∙_, subst}
 use mathlib.Core.Bool.{Bool, true, not, Bool·not-not}
@@ -11,6 +11,7 @@ use Rattle.rules.specs.Store.{State, moneyIn}
 use Rattle.rules.specs.Valid.{Valid}
 use Rattle.rules.specs.Rights.{feeOf}
 use Rattle.rules.specs.Call.{Call}
+use Rattle.rules.specs.Limit as Limit
 use Rattle.rules.specs.Refusals.{caller, early}
 use Rattle.rules.specs.Update.{withHouse, withCash}
 use Rattle.rules.specs.Changes.{spend, toHouse}
@@ -21,7 +22,7 @@ use Rattle.rules.proofs.Ready.{payer}
 use Rattle.layout.specs.Layout as Layout
 use Rattle.layout.specs.Rows.{field, cashOf, masterOf, flagOf}
 use Rattle.layout.specs.View.{isProcess, view}
-use Rattle.layout.specs.WellFormed.{Sized, WellFormed}
+use Rattle.layout.specs.WellFormed.{Sized, Plain}
 use Rattle.rules.proofs.Slots.{at-here, at-else}
 use Rattle.layout.proofs.Field.{at-is, field-in}
 use Rattle.layout.proofs.Puts.{Put, put, puts, Within, beside, length-puts, field-puts, field-kept, head-puts}
@@ -91,9 +92,9 @@ module _ (b l w : List ℕ) (me : ℕ) (P : Process b l me) where
     unfolding paidWords
     fee-sized = record { bytes = Z .bytes; links = Z .links; words = length-puts stores w ∙ Z .words }
 
--- ---- of a well-formed store
+-- ---- of a store as it is entered
 
-module _ (b l w : List ℕ) (W : WellFormed b l w) where
+module _ (b l w : List ℕ) (W : Plain b l w) where
   abbrev s : State
   s = view b l w
 
@@ -103,7 +104,7 @@ module _ (b l w : List ℕ) (W : WellFormed b l w) where
   house-below me n = omega arith
 
   pub fee-room : (me : ℕ) → Process b l me
-      → getD w (Layout.CASH + me) 0 + getD w Layout.HOUSE 0 ≤ 4294967295
+      → getD w (Layout.CASH + me) 0 + getD w Layout.HOUSE 0 ≤ Limit.word
   unfolding view
   fee-room me P =
       let p = process-shown b l w me P in
@@ -120,13 +121,13 @@ module _ (b l w : List ℕ) (W : WellFormed b l w) where
     room = fee-room me P;
   }
 
-  pub fee-formed : (me fee : ℕ) → Process b l me → fee ≤ s .cash me → WellFormed b l (paidWords w me fee)
-  fee-formed me fee P h =
+  pub fee-plain : (me fee : ℕ) → Process b l me → fee ≤ s .cash me → Plain b l (paidWords w me fee)
+  fee-plain me fee P h =
       let K = keep-fee s (W .valid .formed) me (process-shown b l w me P) fee h in
       record {
         sized = fee-sized b l w me P (W .sized) fee;
         cells = W .cells;
-        shape = W .shape;
+        blocks = W .blocks;
         valid = subst Valid (sym (fee-view b l w me P (W .sized) fee))
             (record { formed = K .formed; total = omega (arith, K .total, W .valid .total) });
       }
@@ -141,6 +142,6 @@ module _ (b l w : List ℕ) (W : WellFormed b l w) where
     unfolding paid
     paid-view = fee-view b l w (caller s c) (payer-process b l w W c e) (W .sized) (feeOf (c .number))
 
-    pub paid-formed : WellFormed b l paidWith
-    paid-formed = fee-formed (caller s c) (feeOf (c .number)) (payer-process b l w W c e)
+    pub paid-plain : Plain b l paidWith
+    paid-plain = fee-plain (caller s c) (feeOf (c .number)) (payer-process b l w W c e)
         (payer s c (W .valid .formed .objects) e .1)

@@ -9,6 +9,7 @@ use Rattle.rules.specs.Store.{State}
 use Rattle.rules.specs.Valid.{Objects}
 use Rattle.rules.specs.Rights.{feeOf}
 use Rattle.rules.specs.Call.{Call}
+use Rattle.rules.specs.Code as Code
 use Rattle.rules.specs.Refusals.{_when_, first, inRange, caller, running, early}
 use Rattle.rules.proofs.Tests.{all3}
 use Rattle.rules.proofs.Presenting as Rules
@@ -16,7 +17,7 @@ use Rattle.rules.proofs.Ready.{payer, stopper}
 use Rattle.layout.specs.Layout as Layout
 use Rattle.layout.specs.Rows.{masterOf, flagOf}
 use Rattle.layout.specs.View.{isProcess, view}
-use Rattle.layout.specs.WellFormed.{WellFormed}
+use Rattle.layout.specs.WellFormed.{Plain}
 use Rattle.layout.proofs.Field.{field-low, field-high}
 use Rattle.layout.proofs.Shown.{process-is, process-yes, process-lives, process-flag, object-shown}
 use Rattle.call_steps.specs.Run.{Process}
@@ -27,17 +28,17 @@ module _ (s : State) (c : Call) where
   abbrev poor : Bool
   poor = ltb (s .cash (caller s c)) (feeOf (c .number))
 
-  pub early-range : inRange c ≡ false → early s c ≡ 2
+  pub early-range : inRange c ≡ false → early s c ≡ Code.outOfRange
   unfolding early first _when_
   early-range r = rw (r, first)
 
   module _ (r : inRange c ≡ true) where
-    pub early-running : running s (caller s c) ≡ false → early s c ≡ 3
+    pub early-running : running s (caller s c) ≡ false → early s c ≡ Code.notRunning
     unfolding early first _when_
     early-running e = rw (r, e, first)
 
     module _ (e : running s (caller s c) ≡ true) where
-      pub early-poor : poor ≡ true → early s c ≡ 4
+      pub early-poor : poor ≡ true → early s c ≡ Code.cannotPay
       unfolding early first _when_
       early-poor p = rw (r, e, p, first)
 
@@ -76,12 +77,12 @@ module _ (b l w : List ℕ) where
     process = process-is b l w o ∙ process-yes (masterOf l) (flagOf b) o (P .live) (P .flag);
   }
 
-  module _ (W : WellFormed b l w) (c : Call) where
+  module _ (W : Plain b l w) (c : Call) where
     abbrev objects : Objects (view b l w .object)
     objects = W .valid .formed .objects
 
     pub payer-process : early (view b l w) c ≡ 0 → Process b l (caller (view b l w) c)
     payer-process e = process-of (caller (view b l w) c) (payer (view b l w) c objects e .0)
 
-    pub stopper-process : early (view b l w) c ≡ 4 → Process b l (caller (view b l w) c)
+    pub stopper-process : early (view b l w) c ≡ Code.cannotPay → Process b l (caller (view b l w) c)
     stopper-process e = process-of (caller (view b l w) c) (stopper (view b l w) c objects e)

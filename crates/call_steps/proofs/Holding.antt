@@ -1,6 +1,6 @@
 -- The capability presented: what the cells say of a slot, and why the owner's slot decides as its name does.
 use Prim.Native.Nat.{ℕ, _+_, _≤_}
-use mathlib.Core.Path.{_≡_, refl, sym, ap, _∙_, fun-ext}
+use mathlib.Core.Path.{_≡_, refl, sym, ap, _∙_, subst, fun-ext}
 use mathlib.Core.Logic.{_≢_}
 use mathlib.Core.Bool.{Bool, true, false, _&&_, false≢true}
 use mathlib.Core.List.{List}
@@ -19,7 +19,6 @@ use Rattle.layout.specs.Layout as Layout
 use Rattle.layout.specs.Rows.{field, ownerOf, masterOf, flagOf}
 use Rattle.layout.specs.View.{view}
 use Rattle.layout.specs.Shape.{Shape}
-use Rattle.layout.specs.WellFormed.{WellFormed}
 use Rattle.layout.proofs.Field.{field-in, field-low, field-high}
 use Rattle.layout.proofs.Shaped.{shaped}
 use Rattle.layout.proofs.Shown.{process-yes, lock-here, cap-here, cap-object, cap-lives}
@@ -112,9 +111,9 @@ target-of {l} {k} s h =
     let c = shaped l s .cap k (h .live) in
     record { held = h; slot = record { low = c .owner-low; high = c .owner-high }; live = c .owner-lives }
 
-pub presented-held : (b l w : List ℕ) → WellFormed b l w → (me : ℕ) (x : Capability)
+pub presented-held : (b l w : List ℕ) (me : ℕ) (x : Capability)
     → presented (view b l w) me x ≢ 0 → Held l (presented (view b l w) me x)
-presented-held b l w W me x h =
+presented-held b l w me x h =
     let k : ℕ = presented (view b l w) me x in
     let alive : ownerOf l k ≢ 0 = cap-lives b l w k (shown (view b l w) me x h .lives) in
     record {
@@ -122,6 +121,10 @@ presented-held b l w W me x h =
       high = field-high 512 Layout.OWNER l k alive;
       live = alive;
     }
+
+-- where k is the slot found
+pub found-held : (b l w : List ℕ) (me : ℕ) (x : Capability) (k : ℕ) → k ≡ presented (view b l w) me x → k ≢ 0 → Held l k
+found-held b l w me x k e nz = subst (Held l) (sym e) (presented-held b l w me x (λ z. nz (e ∙ z)))
 
 -- ---- the lockword of a process, and the rights of a capability
 

@@ -3,6 +3,7 @@ pub mod Finding
 pub mod Fitting
 pub mod Callers
 pub mod Holding
+pub mod Admitting
 pub mod Sharing
 pub mod Paying
 pub mod Entering

@@ -1,4 +1,4 @@
--- The mark of refusal 4, from the slices to the rules: what it leaves is the rules' state, and well formed.
+-- The mark of refusal 4, from the slices to the rules: what it leaves is the rules' state, as sound as before.
 use Prim.Native.Nat.{ℕ, suc, _≤_}
 use mathlib.Core.Path.{_≡_, refl, sym, ap, _∙_, subst}
 use mathlib.Core.Bool.{true}
@@ -8,6 +8,7 @@ use Rattle.rules.specs.Slots.{at}
 use Rattle.rules.specs.Store.{Marks}
 use Rattle.rules.specs.Valid.{Valid}
 use Rattle.rules.specs.Call.{Call}
+use Rattle.rules.specs.Code as Code
 use Rattle.rules.specs.Refusals.{caller, early}
 use Rattle.rules.specs.Update.{withMarks}
 use Rattle.rules.specs.Changes.{setTerminated}
@@ -17,7 +18,7 @@ use Rattle.rules.proofs.Keeping.{keep-mark}
 use Rattle.layout.specs.Layout as Layout
 use Rattle.layout.specs.Rows.{field, region, masterOf, flagOf, suspendedOf, waitingOf, terminatedOf, countOf}
 use Rattle.layout.specs.View.{isSet, isProcess, view}
-use Rattle.layout.specs.WellFormed.{Sized, Cells, WellFormed}
+use Rattle.layout.specs.WellFormed.{Sized, Cells, Plain}
 use Rattle.rules.proofs.Slots.{at-here, at-else}
 use Rattle.layout.proofs.Field.{at-is}
 use Rattle.layout.proofs.Puts.{Put, put, puts, Within, beside, length-puts, field-puts, field-kept, region-kept}
@@ -110,22 +111,21 @@ module _ (b l w : List ℕ) (me : ℕ) (P : Process b l me) (Z : Sized b l w) wh
   unfolding terminatedBytes
   mark-sized = record { bytes = length-puts stores b ∙ Z .bytes; links = Z .links; words = Z .words }
 
-pub mark-formed : (b l w : List ℕ) → WellFormed b l w → (me : ℕ) → Process b l me
-    → WellFormed (terminatedBytes b me) l w
+pub mark-plain : (b l w : List ℕ) → Plain b l w → (me : ℕ) → Process b l me → Plain (terminatedBytes b me) l w
 unfolding setTerminated
-mark-formed b l w W me P =
+mark-plain b l w W me P =
     let K = keep-mark (view b l w) (W .valid .formed) me (process-shown b l w me P) (ended (view b l w .marks me)) in
     record {
       sized = mark-sized b l w me P (W .sized);
       cells = mark-cells b l w me P (W .sized) (W .cells);
-      shape = W .shape;
+      blocks = W .blocks;
       valid = subst Valid (sym (mark-view b l w me P (W .sized)))
           (record { formed = K .formed; total = omega (arith, K .total, W .valid .total) });
     }
 
 -- ---- of a call that 4 refuses
 
-module _ (b l w : List ℕ) (W : WellFormed b l w) (c : Call) (e : early (view b l w) c ≡ 4) where
+module _ (b l w : List ℕ) (W : Plain b l w) (c : Call) (e : early (view b l w) c ≡ Code.cannotPay) where
   abbrev who : ℕ
   who = caller (view b l w) c
 
@@ -133,5 +133,5 @@ module _ (b l w : List ℕ) (W : WellFormed b l w) (c : Call) (e : early (view b
   unfolding stopped
   stopped-view = rw (e, stopped) (mark-view b l w who (stopper-process b l w W c e) (W .sized))
 
-  pub stopped-formed : WellFormed (terminatedBytes b who) l w
-  stopped-formed = mark-formed b l w W who (stopper-process b l w W c e)
+  pub stopped-plain : Plain (terminatedBytes b who) l w
+  stopped-plain = mark-plain b l w W who (stopper-process b l w W c e)

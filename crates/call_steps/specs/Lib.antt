@@ -5,4 +5,5 @@ pub mod Run
 pub mod Refuses
 pub mod Replies
 pub mod Tests
+pub mod Admits
 pub mod Paying

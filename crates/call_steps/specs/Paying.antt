@@ -5,6 +5,7 @@ use mathlib.Core.Bool.{Bool, true, false, not}
 use mathlib.Core.List.{List}
 use lib.Dec.{ltb}
 use lib.ListN.{getD, set, length}
+use Rattle.rules.specs.Limit as Limit
 use Rattle.layout.specs.Layout as Layout
 
 -- the process in slot me becomes terminated
@@ -20,9 +21,9 @@ pub record CanPay (b w : List ℕ) (me : ℕ) : Type 0 where
   pub bytes : length b ≡ Layout.BYTES
   pub words : length w ≡ Layout.WORDS
   pub low : 1 ≤ me
-  pub high : me ≤ 64
+  pub high : me ≤ Limit.objects
   -- all money fits a word
-  pub room : getD w (Layout.CASH + me) 0 + getD w Layout.HOUSE 0 ≤ 4294967295
+  pub room : getD w (Layout.CASH + me) 0 + getD w Layout.HOUSE 0 ≤ Limit.word
 
 -- r says whether the fee is paid; b′ and w′ are what is left of the slices b and w
 pub record Pays (b w : List ℕ) (me fee : ℕ) (r : Bool) (b′ w′ : List ℕ) : Type 0 where

@@ -67,12 +67,16 @@ own s c me k h o = elim (eqb (first (refuses s c me k o)) 0) [
   | false ↦ record { answer = code (first (refuses s c me k o)); after = s }
 ]
 
--- the run x of call o's own part is what the rules give, for some choice of free slots, and leaves slices whose lengths,
--- cells and links are those of a well-formed store
-pub record Meets (s : State) (c : Call) (me k : ℕ) (o : Op) (x : Ran) : Type 0 where
+-- the run x of call o's own part is what the rules give, for some choice of free slots, and leaves slices whose lengths and
+-- cells are those of a well-formed store, and whose links have S
+pub record MeetsIn (S : List ℕ → Type 0) (s : State) (c : Call) (me k : ℕ) (o : Op) (x : Ran) : Type 0 where
   pub choice : Choice
   pub free : x .answer .code ≡ 0 → Open s c choice
   pub rules : own s c me k choice o ≡ outcome x
   pub sized : Sized (x .bytes) (x .links) (x .words)
   pub cells : Cells (x .bytes) (x .links)
-  pub shape : Shape (x .links)
+  pub shape : S (x .links)
+
+-- and whose links have the shape of a well-formed store's
+abbrev pub Meets : State → Call → ℕ → ℕ → Op → Ran → Type 0
+Meets = MeetsIn Shape

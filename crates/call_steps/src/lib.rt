@@ -1,5 +1,5 @@
 // What all calls share: the request and the reply, and the steps from a request to the call's own part.
-pub mod groups;
+mod groups;
 pub mod objects;
 pub mod pay;
 pub mod present;

@@ -1,15 +1,16 @@
-// Refusals 5 and 6: the capability presented, and the right that the call asks of it.
+// Refusals 5 and 6: the capability presented, and the right that is asked of it.
 ghost use mathlib.Core.Path.{_≡_};
 ghost use mathlib.Core.List.{List};
 ghost use Prim.Native.Nat.{ℕ, _≤_};
 ghost use lib.ListN.{length};
 ghost use Rattle.rules.specs.Slots.{find};
-ghost use Rattle.rules.specs.Rights.{has, asked, op};
+ghost use Rattle.rules.specs.Rights.{has};
 ghost use Rattle.rules.specs.Password.{presented};
 ghost use Rattle.values.specs.Words.{passwordOf};
 ghost use Rattle.layout.specs.Layout;
 ghost use Rattle.layout.specs.View.{view};
-ghost use Rattle.layout.specs.WellFormed.{WellFormed};
+ghost use Rattle.layout.specs.WellFormed.{Plain};
+ghost use Rattle.call_steps.specs.Admits.{Admits};
 ghost use Rattle.call_steps.specs.Request.{capabilityOf};
 ghost use Rattle.call_steps.specs.Run.{Process, Held};
 ghost use Rattle.call_steps.specs.Tests.{CapSizes, CapSlot, held};
@@ -23,6 +24,9 @@ use layout::OWNER;
 use layout::P1;
 use layout::P2;
 use layout::RIGHTS;
+use values::code::DONE;
+use values::code::NOT_FOUND;
+use values::code::RIGHT_MISSING;
 use values::password::unlock;
 use values::rights::Rights;
 
@@ -58,8 +62,8 @@ fn find_held(links: &[u16], words: &[u32], o: usize, p: [u32; 2]) -> usize
 }
 
 // The slot of the capability that the process in slot me presents, 0 if there is none.
-pub fn present(bytes: &[u8], links: &[u16], words: &[u32], me: usize, x: Capability) -> usize
-    requires { ⌜ WellFormed (now bytes) (now links) (now words) ⌝ ∗ ⌜ Process (now bytes) (now links) me ⌝ }
+fn present(bytes: &[u8], links: &[u16], words: &[u32], me: usize, x: Capability) -> usize
+    requires { ⌜ Plain (now bytes) (now links) (now words) ⌝ ∗ ⌜ Process (now bytes) (now links) me ⌝ }
     ensures { λ r. ⌜ r
         ≡ presented (view (now (bytes .entry)) (now (links .entry)) (now (words .entry))) me (capabilityOf x) ⌝ }
 {
@@ -72,11 +76,49 @@ pub fn present(bytes: &[u8], links: &[u16], words: &[u32], me: usize, x: Capabil
     find_held(links, words, o, unlock(given, lock))
 }
 
-// The capability in slot k holds the right that the call with this number asks.
-pub fn right_held(links: &[u16], k: usize, number: u32) -> bool
+// The capability in slot k holds the right.
+fn right_held(links: &[u16], k: usize, right: Rights) -> bool
     requires { ⌜ length (now links) ≡ Layout.LINKS ⌝ ∗ ⌜ Held (now links) k ⌝ }
-    ensures { λ r. ⌜ ((b w : List ℕ) → r ≡ has (view b (now (links .entry)) w .cap k .rights) (asked (op number))) ⌝ }
+    ensures { λ r. ⌜ ((b w : List ℕ) → r ≡ has (view b (now (links .entry)) w .cap k .rights) (right .0)) ⌝ }
 {
     let rights = Rights(links[RIGHTS + k]);
-    rights.has(Rights::asked(number))
+    rights.has(right)
+}
+
+// 0, or why a right is not granted; the slot of the capability presented, 0 if there is none.
+pub struct Admitted {
+    pub code: u32,
+    pub slot: usize,
+}
+
+// The process in slot me presents a capability, of which the right is asked.
+pub fn admit(
+    bytes: &[u8],
+    links: &[u16],
+    words: &[u32],
+    me: usize,
+    x: Capability,
+    right: Rights,
+) -> Admitted
+    requires { ⌜ Plain (now bytes) (now links) (now words) ⌝ ∗ ⌜ Process (now bytes) (now links) me ⌝ }
+    ensures { λ r. ⌜ Admits (view (now (bytes .entry)) (now (links .entry)) (now (words .entry))) me
+        (capabilityOf x) (right .0) r ⌝ }
+{
+    let k = present(bytes, links, words, me, x);
+    if k == 0 {
+        return Admitted {
+            code: NOT_FOUND,
+            slot: 0,
+        };
+    }
+    if right_held(links, k, right) {
+        return Admitted {
+            code: DONE,
+            slot: k,
+        };
+    }
+    Admitted {
+        code: RIGHT_MISSING,
+        slot: k,
+    }
 }

@@ -5,21 +5,31 @@ ghost use mathlib.Core.List.{List};
 ghost use Prim.Native.Nat.{ℕ, _-_};
 ghost use lib.Dec.{leb, eqb};
 ghost use lib.ListN.{length};
+ghost use Rattle.rules.specs.Limit;
 ghost use Rattle.rules.specs.Rights.{op, presents};
 ghost use Rattle.rules.specs.Refusals.{nameFits, ordered, transferFits, argumentsFit, inRange};
 ghost use Rattle.values.specs.Words.{windowOf};
 ghost use Rattle.call_steps.specs.Request.{nameOf, callOf};
 use crate::request::Name;
 use crate::request::Request;
+use values::limit::MAX_MESSAGE;
+use values::limit::MAX_RIGHTS;
+use values::limit::MAX_SERIAL;
+use values::limit::MAX_SIZE;
+use values::limit::MAX_TRANSFER;
+use values::limit::MAX_VOLUME;
+use values::limit::MIN_BUFFER;
+use values::limit::MIN_SCRATCH;
+use values::limit::TOP;
 use values::rights::Rights;
 use values::window::Window;
 
 // Volumes are 0 to 3, serials 0 to 65,535.
-pub fn name_fits(name: Name) -> bool
+fn name_fits(name: Name) -> bool
     ensures { λ r. ⌜ r ≡ nameFits (nameOf name) ⌝ }
 {
-    if name.volume <= 3 {
-        name.serial <= 65535
+    if name.volume <= MAX_VOLUME {
+        name.serial <= MAX_SERIAL
     } else {
         false
     }
@@ -30,7 +40,7 @@ fn transfer_fits(range: Window) -> bool
     ensures { λ r. ⌜ r ≡ transferFits (windowOf range) ⌝ }
 {
     if range.start <= range.end {
-        range.end - range.start <= 256
+        range.end - range.start <= MAX_TRANSFER
     } else {
         false
     }
@@ -38,15 +48,15 @@ fn transfer_fits(range: Window) -> bool
 
 // make_obj's arguments.
 fn make_fits(name: Name, size: u32, flag: u32, rights: u32) -> bool
-    ensures { λ r. ⌜ r ≡ (nameFits (nameOf name) && leb size 8192 && leb flag 1 && leb rights 8191) ⌝ }
+    ensures { λ r. ⌜ r ≡ (nameFits (nameOf name) && leb size Limit.size && leb flag 1 && leb rights Limit.rights) ⌝ }
 {
-    if size > 8192 {
+    if size > MAX_SIZE {
         return false;
     }
     if flag > 1 {
         return false;
     }
-    if rights > 8191 {
+    if rights > MAX_RIGHTS {
         return false;
     }
     name_fits(name)
@@ -54,10 +64,10 @@ fn make_fits(name: Name, size: u32, flag: u32, rights: u32) -> bool
 
 // read's.
 fn read_fits(range: Window, buffer: usize) -> bool
-    ensures { λ r. ⌜ r ≡ (transferFits (windowOf range) && leb 256 buffer) ⌝ }
+    ensures { λ r. ⌜ r ≡ (transferFits (windowOf range) && leb Limit.buffer buffer) ⌝ }
 {
     if transfer_fits(range) {
-        buffer >= 256
+        buffer >= MIN_BUFFER
     } else {
         false
     }
@@ -77,9 +87,9 @@ fn write_fits(range: Window, text: usize) -> bool
 
 // derive_cap's.
 fn derive_fits(rights: u32, range: Window) -> bool
-    ensures { λ r. ⌜ r ≡ (leb rights 8191 && ordered (windowOf range)) ⌝ }
+    ensures { λ r. ⌜ r ≡ (leb rights Limit.rights && ordered (windowOf range)) ⌝ }
 {
-    if rights <= 8191 {
+    if rights <= MAX_RIGHTS {
         range.start <= range.end
     } else {
         false
@@ -98,15 +108,15 @@ fn arguments_fit(req: Request, text: usize, buffer: usize, scratch: usize) -> bo
         3 => write_fits(req.range, text),
         4 => true,
         5 => derive_fits(req.rights, req.range),
-        6 => scratch >= 512,
-        7 => scratch >= 512,
+        6 => scratch >= MIN_SCRATCH,
+        7 => scratch >= MIN_SCRATCH,
         8 => true,
         9 => true,
         10 => true,
         11 => true,
-        12 => req.lock[0] < 2147483648,
-        13 => text <= 16,
-        14 => buffer >= 256,
+        12 => req.lock[0] < TOP,
+        13 => text <= MAX_MESSAGE,
+        14 => buffer >= MIN_BUFFER,
         15 => true,
         16 => true,
         _ => false,

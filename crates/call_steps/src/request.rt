@@ -43,8 +43,8 @@ pub struct Reply {
 }
 
 impl Reply {
-    // A refusal: its other result fields are 0.
-    pub fn refused(code: u32) -> Reply
+    // 0 or a refusal alone: the other result fields are 0.
+    pub fn answered(code: u32) -> Reply
         ensures { λ r. ⌜ Refuses code r ⌝ }
     {
         Reply {
@@ -61,6 +61,12 @@ impl Reply {
             sum: 0,
             count: 0,
         }
+    }
+    // A refusal.
+    pub fn refused(code: u32) -> Reply
+        ensures { λ r. ⌜ Refuses code r ⌝ }
+    {
+        Reply::answered(code)
     }
     // A new capability, as drawn.
     pub fn hands_back(name: Name, password: [u32; 2]) -> Reply

@@ -1,7 +1,7 @@
 // A cell of the bytes or the links as a wider number.
 ghost use mathlib.Core.Path.{_≡_};
 
-pub fn wide8(cell: u8) -> u32
+pub(crate) fn wide8(cell: u8) -> u32
     ensures { λ r. ⌜ r ≡ cell ⌝ }
 {
     cell as u32

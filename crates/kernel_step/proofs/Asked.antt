@@ -1,7 +1,6 @@
 -- What the code of each call asks, by the call's number: its arguments are in range, and its capability is held.
 use Prim.Native.Nat.{ℕ, _-_, _≤_}
 use mathlib.Core.Path.{_≡_, refl, sym, ap, _∙_}
-use mathlib.Core.Logic.{_≢_}
 use mathlib.Core.Bool.{true, false, not, _||_, false≢true}
 use mathlib.Core.List.{List}
 use native.Mathlib.Omega.{arith}
@@ -12,10 +11,13 @@ use Rattle.rules.specs.Store.{Window}
 use Rattle.rules.specs.Rights.{Op, makeObj, read, write, capInfo, deriveCap, deleteCap, renameObj, withdraw}
 use Rattle.rules.specs.Rights.{deposit, suspend, resume, applyLock, send, receive, revive, op, presents}
 use Rattle.rules.specs.Call.{Call}
+use Rattle.rules.specs.Limit as Limit
 use Rattle.rules.specs.Refusals.{nameFits, ordered, transferFits, bufferFits, argumentsFit, inRange}
 use Rattle.rules.proofs.Tests.{all2, all3}
+use Rattle.layout.specs.Shape.{Shape}
 use Rattle.call_steps.specs.Run.{Held}
 use Rattle.call_steps.proofs.Fitting.{NoneTo, unknown-fits, transfer-ordered}
+use Rattle.call_enter.specs.Begins.{Begins}
 use Rattle.call_marks.specs.Runs.{MarkAsks, LockAsks, ReviveAsks, InfoAsks}
 use Rattle.call_marks.proofs.Requires.{mark-asks, lock-asks, revive-asks, info-asks}
 use Rattle.call_purse.specs.Calls.{Payable, Withdrawable}
@@ -34,6 +36,18 @@ use Rattle.call_rename.specs.Runs.{RenameAsks}
 use Rattle.call_rename.proofs.Meets.{rename-asks}
 use Rattle.kernel_step.specs.Asks.{OwnAsks}
 
+-- ---- where the own part begins
+
+pub own-asks : {b l w : List ℕ} {c : Call} {me k : ℕ} → Shape l → Begins b l w c me k → OwnAsks b l w c me k
+own-asks shape B = record {
+  late = record {
+    formed = record { sized = B .plain .sized; cells = B .plain .cells; shape = shape; valid = B .plain .valid };
+    caller = B .process;
+    range = B .range;
+  };
+  held = B .held;
+}
+
 -- ---- arguments in range
 
 pub fits : (c : Call) (o : Op) → op (c .number) ≡ o → inRange c ≡ true → argumentsFit o c ≡ true
@@ -43,9 +57,9 @@ fits c o e r =
     ∙ all3 (nameFits (c .caller)) (not (presents (op (c .number))) || nameFits (c .presented .name))
     (argumentsFit (op (c .number)) c) r .2
 
-short : (w : Window) → transferFits w ≡ true → w .end - w .start ≤ 256
+short : (w : Window) → transferFits w ≡ true → w .end - w .start ≤ Limit.transfer
 unfolding transferFits ordered
-short w h = leb-true _ _ (all2 (leb (w .start) (w .end)) (leb (w .end - w .start) 256) h .1)
+short w h = leb-true _ _ (all2 (leb (w .start) (w .end)) (leb (w .end - w .start) Limit.transfer) h .1)
 
 -- the last arm of the decision is never taken: the number is none of the sixteen
 module _ {b l w : List ℕ} {c : Call} {me k : ℕ} (A : OwnAsks b l w c me k) where
@@ -61,9 +75,9 @@ module _ {b l w : List ℕ} {c : Call} {me k : ℕ} (A : OwnAsks b l w c me k) w
       → ReadAsks b l w buffer k (c .range .start) (c .range .end)
   unfolding presents argumentsFit bufferFits
   read-asked buffer long e =
-      let f = all2 (transferFits (c .range)) (leb 256 (c .buffer)) (fits c read e (A .late .range)) in
+      let f = all2 (transferFits (c .range)) (leb Limit.buffer (c .buffer)) (fits c read e (A .late .range)) in
       read-asks (A .late .formed) (held read e refl) buffer (transfer-ordered (c .range) (f .0))
-      (short (c .range) (f .0)) (omega (arith, leb-true 256 (c .buffer) (f .1)))
+      (short (c .range) (f .0)) (omega (arith, leb-true Limit.buffer (c .buffer) (f .1)))
 
   pub write-asked : op (c .number) ≡ write → WriteAsks b l w (c .bytes) k (c .range .start) (c .range .end)
   unfolding presents argumentsFit
@@ -97,7 +111,7 @@ module _ {b l w : List ℕ} {c : Call} {me k : ℕ} (A : OwnAsks b l w c me k) w
   unfolding presents
   lock-asked e = lock-asks (A .late .formed) (held applyLock e refl)
 
-  pub send-short : op (c .number) ≡ send → length (c .bytes) ≤ 16
+  pub send-short : op (c .number) ≡ send → length (c .bytes) ≤ Limit.message
   unfolding argumentsFit
   send-short e = leb-true _ _ (fits c send e (A .late .range))
 
@@ -109,7 +123,7 @@ module _ {b l w : List ℕ} {c : Call} {me k : ℕ} (A : OwnAsks b l w c me k) w
       → ReceiveAsks b w buffer me
   unfolding argumentsFit bufferFits
   receive-asked buffer long e = receive-asks (A .late .formed) buffer (A .late .caller)
-      (omega (arith, leb-true 256 (c .buffer) (fits c receive e (A .late .range))))
+      (omega (arith, leb-true Limit.buffer (c .buffer) (fits c receive e (A .late .range))))
 
   pub revive-asked : op (c .number) ≡ revive → ReviveAsks b l w me k (c .sum)
   unfolding presents
@@ -121,7 +135,7 @@ module _ {b l w : List ℕ} {c : Call} {me k : ℕ} (A : OwnAsks b l w c me k) w
   pub derive-asked : op (c .number) ≡ deriveCap → DeriveAsks b l w k (c .rights)
   unfolding presents argumentsFit
   derive-asked e = derive-asks (A .late .formed) (held deriveCap e refl)
-      (leb-true _ _ (all2 (leb (c .rights) 8191) (ordered (c .range)) (fits c deriveCap e (A .late .range)) .0))
+      (leb-true _ _ (all2 (leb (c .rights) Limit.rights) (ordered (c .range)) (fits c deriveCap e (A .late .range)) .0))
 
   pub delete-asked : op (c .number) ≡ deleteCap → DeleteAsks b l w k
   unfolding presents

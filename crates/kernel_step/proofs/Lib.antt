@@ -2,8 +2,6 @@
 pub mod Asked
 -- the replies and the runs, as the code comes to them
 pub mod Replying
-pub mod Showing
-pub mod Entering
 -- the exact runs are what the rules give, and what they leave where they refuse
 pub mod Meeting
 pub mod Refusing

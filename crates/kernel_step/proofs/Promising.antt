@@ -1,32 +1,54 @@
--- The promise of the step from its exact run.
+-- The promise of the step from its exact run: what it comes to for any own part, then for the kernel's.
 use Prim.Native.Nat.{ℕ}
 use mathlib.Core.Path.{_≡_, sym, ap, _∙_, subst}
 use mathlib.Core.List.{List}
 use lib.ListN.{length}
 use Rattle.rules.specs.Rights.{op}
-use Rattle.rules.specs.Call.{Call, Answer, Outcome}
-use Rattle.rules.specs.Demand.{Words}
+use Rattle.rules.specs.Valid.{Valid}
+use Rattle.rules.specs.Call.{Call, Answer, Outcome, Choice}
+use Rattle.rules.specs.Rule.{rule}
+use Rattle.rules.specs.Demand.{Words, Allowed}
 use Rattle.layout.specs.View.{view}
-use Rattle.layout.specs.WellFormed.{WellFormed}
+use Rattle.layout.specs.Shape.{Shape}
+use Rattle.layout.specs.WellFormed.{Sized, Cells, WellFormed}
 use Rattle.call_steps.specs.declared.request.Request.{Request}
 use Rattle.call_steps.specs.declared.request.Reply.{Reply}
 use Rattle.call_steps.specs.Request.{answerOf}
 use Rattle.call_steps.specs.Run.{Ran, overlay}
+use Rattle.call_enter.specs.Entry.{OwnPart, stepWith}
+use Rattle.call_enter.proofs.Meeting.{MeetsRule}
 use Rattle.kernel_step.specs.Slices.{Slices, slices, stateOf, callOn}
+use Rattle.kernel_step.specs.Own.{ownRun}
 use Rattle.kernel_step.specs.Run.{stepRun}
 use Rattle.kernel_step.specs.Ends.{scratchAfter, Ends, StepEnds}
 use Rattle.kernel_step.specs.Steps.{Refuses, front, Steps, Stepped}
 use Rattle.kernel_step.proofs.Meeting.{step-meets}
-use Rattle.kernel_step.proofs.Refusing.{step-leaves}
+use Rattle.kernel_step.proofs.Refusing.{OwnLeaves, own-leaves, step-leaves}
 
-module _ {c : Call} {r : Reply} {was is : Slices} (A : WellFormed (was .bytes) (was .links) (was .words))
-    (words : Words c) (E : Ends c (stepRun (was .bytes) (was .links) (was .words) c) r was is) where
-  promise : Steps c r was is
+-- ---- any own part; S is what is kept of the links
+
+-- the fields of `Steps`, with what makes the store well formed one by one
+pub record Promises (S : List ℕ → Type 0) (c : Call) (r : Reply) (was is : Slices) : Type 0 where
+  pub choice : Choice
+  pub allowed : Allowed (stateOf was) c choice
+  pub rules : rule (stateOf was) c choice ≡ record { answer = answerOf r (front r is); after = stateOf is }
+  pub sized : Sized (is .bytes) (is .links) (is .words)
+  pub cells : Cells (is .bytes) (is .links)
+  pub kept : S (is .links)
+  pub valid : Valid (stateOf is)
+  pub count : length (front r is) ≡ r .count
+  pub buffer-is : is .buffer ≡ overlay (front r is) (was .buffer)
+  pub scratch-is : is .scratch ≡ scratchAfter (op (c .number)) (r .code) (was .scratch)
+  pub refused : Refuses c (r .code) was is
+
+module _ (S : List ℕ → Type 0) (own : OwnPart) (leaves : OwnLeaves own) {c : Call} {r : Reply} {was is : Slices}
+    (m : MeetsRule S (stateOf was) c (stepWith own (was .bytes) (was .links) (was .words) c))
+    (E : Ends c (stepWith own (was .bytes) (was .links) (was .words) c) r was is) where
+  pub promises : Promises S c r was is
   unfolding answerOf
-  promise =
-      let x : Ran = stepRun (was .bytes) (was .links) (was .words) c in
-      let m = step-meets (was .bytes) (was .links) (was .words) c A words in
-      let S = E .store in
+  promises =
+      let x : Ran = stepWith own (was .bytes) (was .links) (was .words) c in
+      let T = E .store in
       let bytes-are : front r is ≡ x .answer .bytes = ap (λ (a : Answer). a .bytes) (E .replies .answer) in
       let code-is : r .code ≡ x .answer .code = ap (λ (a : Answer). a .code) (E .replies .answer) in
       record {
@@ -35,23 +57,44 @@ module _ {c : Call} {r : Reply} {was is : Slices} (A : WellFormed (was .bytes) (
         rules = m .rules
             ∙ (λ d. record {
               answer = sym (E .replies .answer) d;
-              after = view (sym (S .bytes) d) (sym (S .links) d) (sym (S .words) d);
+              after = view (sym (T .bytes) d) (sym (T .links) d) (sym (T .words) d);
             });
-        formed = subst (λ b. WellFormed b (is .links) (is .words)) (sym (S .bytes))
-            (subst (λ l. WellFormed (x .bytes) l (is .words)) (sym (S .links))
-            (subst (λ w. WellFormed (x .bytes) (x .links) w) (sym (S .words)) (m .formed)));
+        sized = subst (λ b. Sized b (is .links) (is .words)) (sym (T .bytes))
+            (subst (λ l. Sized (x .bytes) l (is .words)) (sym (T .links))
+            (subst (λ w. Sized (x .bytes) (x .links) w) (sym (T .words)) (m .sized)));
+        cells = subst (λ b. Cells b (is .links)) (sym (T .bytes)) (subst (Cells (x .bytes)) (sym (T .links)) (m .cells));
+        kept = subst S (sym (T .links)) (m .links);
+        valid = subst Valid (λ d. view (sym (T .bytes) d) (sym (T .links) d) (sym (T .words) d)) (m .valid);
         count = ap length bytes-are ∙ sym (E .replies .count);
         buffer-is = E .replies .buffer-is ∙ ap (λ t. overlay t (was .buffer)) (sym bytes-are);
         scratch-is = E .scratch ∙ ap (λ n. scratchAfter (op (c .number)) n (was .scratch)) (sym code-is);
         refused = subst (Refuses c (r .code) was)
-            (λ d. slices (sym (S .bytes) d) (sym (S .links) d) (sym (S .words) d) (is .buffer) (is .scratch))
+            (λ d. slices (sym (T .bytes) d) (sym (T .links) d) (sym (T .words) d) (is .buffer) (is .scratch))
             (subst (λ n. Refuses c n was (slices (x .bytes) (x .links) (x .words) (is .buffer) (is .scratch)))
             (sym code-is)
-            (step-leaves was c (m .choice) (is .buffer) (is .scratch)
+            (step-leaves own leaves was c (m .choice) (is .buffer) (is .scratch)
             (ap (λ (o : Outcome). o .answer .code) (m .rules))));
       }
+
+-- ---- the kernel's
+
+steps-of : {c : Call} {r : Reply} {was is : Slices} → Promises Shape c r was is → Steps c r was is
+steps-of p = record {
+  choice = p .choice;
+  allowed = p .allowed;
+  rules = p .rules;
+  formed = record { sized = p .sized; cells = p .cells; shape = p .kept; valid = p .valid };
+  count = p .count;
+  buffer-is = p .buffer-is;
+  scratch-is = p .scratch-is;
+  refused = p .refused;
+}
 
 pub stepped : {q : Request} {text : List ℕ} {r : Reply} {was is : Slices}
     → WellFormed (was .bytes) (was .links) (was .words) → Words (callOn q text was)
     → StepEnds q text r was is → Stepped q text r was is
-stepped A W E = record { rules = promise A W E; exact = E }
+unfolding stepRun
+stepped A W E = record {
+  rules = steps-of (promises Shape ownRun own-leaves (step-meets A W) E);
+  exact = E;
+}

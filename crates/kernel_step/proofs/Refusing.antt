@@ -11,19 +11,21 @@ use Rattle.rules.specs.Rights.{Op, makeObj, read, write, capInfo, deriveCap, de
 use Rattle.rules.specs.Rights.{deposit, suspend, resume, applyLock, send, receive, wait, revive, unknown}
 use Rattle.rules.specs.Rights.{op, feeOf}
 use Rattle.rules.specs.Call.{Call, Choice, code, tells, handsOver}
-use Rattle.rules.specs.Password.{presented}
-use Rattle.rules.specs.Refusals.{caller, early}
-use Rattle.rules.specs.Rule.{paid, late, rule, isDone}
+use Rattle.rules.specs.Code as Code
+use Rattle.rules.specs.Refusals.{first, caller, early, presenting}
+use Rattle.rules.specs.Rule.{paid, rule, isDone}
 use Rattle.rules.proofs.Tests.{by-bool, by-eq, pick-yes, pick-not}
 use Rattle.rules.proofs.Ready.{early-low, late-high, slotOf}
 use Rattle.rules.proofs.Answers.{is-done}
 use Rattle.rules.proofs.Outcomes.{rule-by}
 use Rattle.layout.specs.Rows.{parentOf}
 use Rattle.layout.specs.View.{view}
-use Rattle.call_steps.specs.Paying.{terminatedBytes, paidWords}
+use Rattle.call_steps.specs.Paying.{paidWords}
 use Rattle.call_steps.specs.Replies as Replies
 use Rattle.call_steps.specs.Run.{Ran, over, settled}
 use Rattle.call_steps.proofs.Meeting.{stopped, goes-on}
+use Rattle.call_enter.specs.Entry.{shownSlot, OwnPart, stepWith}
+use Rattle.call_enter.proofs.Stepping.{step-by}
 use Rattle.call_marks.specs.Runs.{suspendedRun, lockRun, waitRun, reviveRun, infoRun, told}
 use Rattle.call_purse.specs.Calls.{withdrawRun, depositRun}
 use Rattle.call_transfer.specs.Runs.{readRun, writeRun, handed}
@@ -34,17 +36,14 @@ use Rattle.call_delete.specs.Runs.{deleteRun}
 use Rattle.call_rename.specs.Runs.{renameRun, renamed}
 use Rattle.kernel_step.specs.Slices.{Slices, slices, Store, stateOf}
 use Rattle.kernel_step.specs.Own.{ownRun}
-use Rattle.kernel_step.specs.Run.{lateRun, stepRun}
 use Rattle.kernel_step.specs.Steps.{Refuses}
-use Rattle.kernel_step.proofs.Showing.{shown-by}
-use Rattle.kernel_step.proofs.Entering.{step-by}
 
 -- the run leaves these slices
-abbrev Leaves : List ℕ → List ℕ → List ℕ → Ran → Type 0
+abbrev pub Leaves : List ℕ → List ℕ → List ℕ → Ran → Type 0
 Leaves b l w x = Store (slices (x .bytes) (x .links) (x .words) [] []) b l w
 
 -- where it is refused
-abbrev Refusing : List ℕ → List ℕ → List ℕ → Ran → Type 0
+abbrev pub Refusing : List ℕ → List ℕ → List ℕ → Ran → Type 0
 Refusing b l w x = x .answer .code ≢ 0 → Leaves b l w x
 
 module _ (b l w : List ℕ) where
@@ -58,7 +57,7 @@ module _ (b l w : List ℕ) where
       (λ z. subst (Refusing b l w) (goes-on b l w x z) (λ nz. absurd (nz done)))
       (λ nz. subst (Refusing b l w) (stopped b l w x n refl nz) (λ _. over-leaves n))
 
-  own-leaves : (c : Call) (me k : ℕ) (o : Op) → Refusing b l w (ownRun b l w c me k o)
+  pub own-leaves : (c : Call) (me k : ℕ) (o : Op) → Refusing b l w (ownRun b l w c me k o)
   unfolding ownRun suspendedRun lockRun waitRun reviveRun infoRun told tells readRun writeRun handed handsOver sendRun
       receiveRun answered withdrawRun depositRun makeRun made deriveRun derived deleteRun renameRun renamed Replies.handed over code
   own-leaves c me k makeObj = settled-leaves _ _ refl
@@ -79,14 +78,7 @@ module _ (b l w : List ℕ) where
   own-leaves c me k receive = settled-leaves _ _ refl
   own-leaves c me k wait = λ nz. absurd (nz refl)
   own-leaves c me k revive = settled-leaves _ _ refl
-  own-leaves c me k unknown = λ nz. absurd (nz refl)
-
-  late-leaves : (c : Call) (me : ℕ) → Refusing b l w (lateRun b l w c me)
-  unfolding lateRun
-  late-leaves c me = shown-by b l w c me (presented (view b l w) me (c .presented)) (Refusing b l w)
-      (λ _ _. over-leaves 5)
-      (λ _ _. over-leaves 6)
-      (λ _ _. own-leaves c me _ (op (c .number)))
+  own-leaves c me k unknown = λ _. over-leaves Code.outOfRange
 
 -- ---- by the code that the rules answer
 
@@ -99,18 +91,41 @@ late-code s c h z = rule-by s c h (λ r. r .answer .code ≢ 0 → 4 < r .answer
     (λ _ nz _. late-high (paid s c) c (slotOf s c) nz)
     (λ _ _ nz. absurd (nz (eqb-true _ 0 (is-done s c h))))
 
+-- an own part that leaves the slices where it refuses
+abbrev pub OwnLeaves : OwnPart → Type 0
+OwnLeaves own = (b l w : List ℕ) (c : Call) (me k : ℕ) (o : Op) → Refusing b l w (own b l w c me k o)
+
 -- the buffer and the scratch are not spoken of
-module _ (was : Slices) (c : Call) (h : Choice) (buffer scratch : List ℕ) where
+module _ (own : OwnPart) (leaves : OwnLeaves own) (was : Slices) (c : Call) (h : Choice) (buffer scratch : List ℕ) where
   abbrev s : State
   s = stateOf was
+
+  abbrev w′ : List ℕ
+  w′ = paidWords (was .words) (caller s c) (feeOf (c .number))
+
+  abbrev k : ℕ
+  k = shownSlot (view (was .bytes) (was .links) w′) (caller s c) (c .presented) (op (c .number))
 
   abbrev Left : Ran → Type 0
   Left x = rule s c h .answer .code ≡ x .answer .code
       → Refuses c (x .answer .code) was (slices (x .bytes) (x .links) (x .words) buffer scratch)
 
-  pub step-leaves : Left (stepRun (was .bytes) (was .links) (was .words) c)
+  -- after the fee
+  paid-left : (x : Ran) → early s c ≡ 0 → Refusing (was .bytes) (was .links) w′ x → Left x
+  paid-left x e stays q =
+      let high : x .answer .code ≢ 0 → 4 < x .answer .code =
+      λ nz. subst (λ n. 4 < n) q (late-code s c h e (λ z. nz (sym q ∙ z))) in
+      record {
+        nothing = λ some low. absurd (omega (arith, high (λ z. omega arith)));
+        marks = λ four. absurd (omega (arith, high (λ z. omega arith)));
+        fee = λ many.
+            let same = stays (λ z. omega arith) in
+            record { bytes = same .bytes; links = same .links; words = same .words };
+      }
+
+  pub step-leaves : Left (stepWith own (was .bytes) (was .links) (was .words) c)
   unfolding over code
-  step-leaves = step-by (was .bytes) (was .links) (was .words) c Left
+  step-leaves = step-by own (was .links) c (was .bytes) (was .words) Left
       (λ nz n4 _. record {
         nothing = λ _ _. record { bytes = refl; links = refl; words = refl };
         marks = λ e. absurd (n4 e);
@@ -121,15 +136,8 @@ module _ (was : Slices) (c : Call) (h : Choice) (buffer scratch : List ℕ) wher
         marks = λ _. record { bytes = refl; links = refl; words = refl };
         fee = λ high. absurd (omega arith);
       })
-      (λ e q.
-      let w′ : List ℕ = paidWords (was .words) (caller s c) (feeOf (c .number)) in
-      let x : Ran = lateRun (was .bytes) (was .links) w′ c (caller s c) in
-      let high : x .answer .code ≢ 0 → 4 < x .answer .code =
-      λ nz. subst (λ n. 4 < n) q (late-code s c h e (λ z. nz (sym q ∙ z))) in
-      record {
-        nothing = λ some low. absurd (omega (arith, high (λ z. omega arith)));
-        marks = λ four. absurd (omega (arith, high (λ z. omega arith)));
-        fee = λ many.
-            let k = late-leaves (was .bytes) (was .links) w′ c (caller s c) (λ z. omega arith) in
-            record { bytes = k .bytes; links = k .links; words = k .words };
-      })
+      (λ e nz.
+      let n : ℕ = first (presenting (view (was .bytes) (was .links) w′) k (op (c .number))) in
+      paid-left (over n (was .bytes) (was .links) w′) e (λ _. over-leaves (was .bytes) (was .links) w′ n))
+      (λ e z. paid-left (own (was .bytes) (was .links) w′ c (caller s c) k (op (c .number))) e
+      (leaves (was .bytes) (was .links) w′ c (caller s c) k (op (c .number))))

@@ -13,6 +13,8 @@ use borrow.Author.Tests.{eq-eqb, ne-eqb}
 use Rattle.rules.specs.Store.{State}
 use Rattle.rules.specs.Rights.{Op, op}
 use Rattle.rules.specs.Call.{Call, Answer, code, handsOver}
+use Rattle.rules.specs.Code as Code
+use Rattle.rules.specs.Limit as Limit
 use Rattle.rules.specs.Refusals.{_when_, first}
 use Rattle.rules.specs.Calls.{liesIn}
 use Rattle.rules.proofs.Tests.{by-bool, by-eq, pick-yes, pick-not}
@@ -25,6 +27,7 @@ use Rattle.call_steps.specs.Refuses.{Refuses}
 use Rattle.call_steps.specs.Replies as Shared
 use Rattle.call_steps.specs.Run.{Ran, over, overlay}
 use Rattle.call_steps.proofs.Meeting.{stopped, goes-on}
+use Rattle.call_enter.specs.Entry.{OwnPart}
 use Rattle.call_prune.specs.Scratch.{scratchLeft}
 use Rattle.call_delete.specs.Runs.{deleteRun}
 use Rattle.call_transfer.specs.Runs.{range, window, part, handed, readRun, Reads, ReadAsks}
@@ -34,8 +37,7 @@ use Rattle.call_mail.specs.Runs.{oldest, oldestBytes, receivedBytes, receivedWo
 use Rattle.call_mail.specs.Runs.{ReceiveAsks}
 use Rattle.call_mail.specs.Runs as Mail
 use Rattle.kernel_step.specs.Slices.{Slices, slices, Store, callOn}
-use Rattle.kernel_step.specs.Own.{ownRun}
-use Rattle.kernel_step.specs.Ends.{Replies, Hands, Receives, clears, scratchAfter, Ends, OwnEnds}
+use Rattle.kernel_step.specs.Ends.{Replies, Hands, Receives, clears, scratchAfter, Ends, OwnEndsOf}
 
 -- ---- replies
 
@@ -139,15 +141,15 @@ pub ends-of : {c : Call} {x y : Ran} {r : Reply} {was is : Slices} → Ends c x 
     → {b l w : List ℕ} → Ends c y r (slices b l w (was .buffer) (was .scratch)) is
 ends-of E e = let F = ends-same E e in record { replies = F .replies; store = F .store; scratch = F .scratch }
 
--- ---- an arm of the decision: m is the call's number
+-- ---- an arm of the decision, of any own part: m is the call's number
 
-module _ (q : Request) (text : List ℕ) (me k : ℕ) (was : Slices) (m : ℕ) (e : q .number ≡ m) where
+module _ (own : OwnPart) (q : Request) (text : List ℕ) (me k : ℕ) (was : Slices) (m : ℕ) (e : q .number ≡ m) where
   abbrev run : ℕ → Ran
-  run i = ownRun (was .bytes) (was .links) (was .words) (callOn q text was) me k (op i)
+  run i = own (was .bytes) (was .links) (was .words) (callOn q text was) me k (op i)
 
   arm : {r : Reply} {is : Slices} → Replies (run m .answer) r (was .buffer) (is .buffer)
       → Store is (run m .bytes) (run m .links) (run m .words)
-      → is .scratch ≡ scratchAfter (op m) (run m .answer .code) (was .scratch) → OwnEnds q text me k r was is
+      → is .scratch ≡ scratchAfter (op m) (run m .answer .code) (was .scratch) → OwnEndsOf own q text me k r was is
   unfolding callOf
   arm {r} {is} R S left = subst (λ i. Ends (callOn q text was) (run i) r was is) (sym e) (record {
     replies = R;
@@ -157,7 +159,7 @@ module _ (q : Request) (text : List ℕ) (me k : ℕ) (was : Slices) (m : ℕ) (
 
   -- the call gives a code alone
   over-arm : {n : ℕ} {r : Reply} {is : Slices} → Refuses n r → over n (is .bytes) (is .links) (is .words) ≡ run m
-      → is .buffer ≡ was .buffer → is .scratch ≡ scratchAfter (op m) n (was .scratch) → OwnEnds q text me k r was is
+      → is .buffer ≡ was .buffer → is .scratch ≡ scratchAfter (op m) n (was .scratch) → OwnEndsOf own q text me k r was is
   unfolding over code
   over-arm {n} {r} {is} R h same left = arm
       (replies-same h (subst (λ d. Replies (code n) r d (is .buffer)) same (replies-code (is .buffer) R)))
@@ -170,26 +172,26 @@ module _ (q : Request) (text : List ℕ) (me k : ℕ) (was : Slices) (m : ℕ) (
 
   pub arm-code : {n : ℕ} {r : Reply} {is : Slices} → clears (op m) ≡ false → Refuses n r
       → over n (is .bytes) (is .links) (is .words) ≡ run m → is .buffer ≡ was .buffer → is .scratch ≡ was .scratch
-      → OwnEnds q text me k r was is
+      → OwnEndsOf own q text me k r was is
   arm-code {n} free R h same kept = over-arm R h same (kept ∙ scratch-kept (op m) n (was .scratch) free)
 
   -- delete_cap
   pub arm-done : {n : ℕ} {r : Reply} {is : Slices} → clears (op m) ≡ true → n ≡ 0 → Refuses n r
       → over n (is .bytes) (is .links) (is .words) ≡ run m → is .buffer ≡ was .buffer
-      → is .scratch ≡ replicate (length (was .scratch)) 0 → OwnEnds q text me k r was is
+      → is .scratch ≡ replicate (length (was .scratch)) 0 → OwnEndsOf own q text me k r was is
   arm-done {n} all z R h same zeros = over-arm R h same (zeros ∙ sym (scratch-zeros (op m) n (was .scratch) all z))
 
   -- it gives more, and leaves the scratch
   pub arm-more : {r : Reply} {is : Slices} → clears (op m) ≡ false
       → Replies (run m .answer) r (was .buffer) (is .buffer)
       → Store is (run m .bytes) (run m .links) (run m .words) → is .scratch ≡ was .scratch
-      → OwnEnds q text me k r was is
+      → OwnEndsOf own q text me k r was is
   arm-more free R S kept = arm R S (kept ∙ scratch-kept (op m) (run m .answer .code) (was .scratch) free)
 
   -- it gives a reply with no bytes
   reply-arm : {r : Reply} {is : Slices} → Shared.Replies r (is .bytes) (is .links) (is .words) (run m)
       → is .buffer ≡ was .buffer → is .scratch ≡ scratchAfter (op m) (r .code) (was .scratch)
-      → OwnEnds q text me k r was is
+      → OwnEndsOf own q text me k r was is
   reply-arm {r} {is} R same left = arm
       (subst (λ d. Replies (run m .answer) r d (is .buffer)) same (replied R (is .buffer)))
       (record { bytes = R .bytes; links = R .links; words = R .words })
@@ -197,13 +199,13 @@ module _ (q : Request) (text : List ℕ) (me k : ℕ) (was : Slices) (m : ℕ) (
 
   pub arm-reply : {r : Reply} {is : Slices} → clears (op m) ≡ false
       → Shared.Replies r (is .bytes) (is .links) (is .words) (run m) → is .buffer ≡ was .buffer
-      → is .scratch ≡ was .scratch → OwnEnds q text me k r was is
+      → is .scratch ≡ was .scratch → OwnEndsOf own q text me k r was is
   arm-reply {r} free R same kept = reply-arm R same (kept ∙ scratch-kept (op m) (r .code) (was .scratch) free)
 
   -- rename_obj
   pub arm-cleared : {r : Reply} {is : Slices} → clears (op m) ≡ true
       → Shared.Replies r (is .bytes) (is .links) (is .words) (run m) → is .buffer ≡ was .buffer
-      → is .scratch ≡ scratchLeft (r .code) (was .scratch) → OwnEnds q text me k r was is
+      → is .scratch ≡ scratchLeft (r .code) (was .scratch) → OwnEndsOf own q text me k r was is
   unfolding scratchLeft scratchAfter
   arm-cleared {r} all R same left = reply-arm R same
       (left ∙ ap {B = List ℕ} (λ t. elim (t && eqb (r .code) 0) [ true ↦ replicate (length (was .scratch)) 0 | false ↦ was .scratch ])
@@ -223,9 +225,9 @@ module _ (b l w buffer : List ℕ) (k start end : ℕ) where
   abbrev bytes-read : List ℕ
   bytes-read = part b l (ownerOf l k) start end
 
-  outside : liesIn (range start end) (window w k) ≡ false → over 7 b l w ≡ readRun b l w k start end
+  outside : liesIn (range start end) (window w k) ≡ false → over Code.outsideWindow b l w ≡ readRun b l w k start end
   unfolding readRun
-  outside h = stopped b l w (handed bytes-read b l w) 7 (inside-no w k start end h) (omega arith)
+  outside h = stopped b l w (handed bytes-read b l w) Code.outsideWindow (inside-no w k start end h) (omega arith)
 
   within : liesIn (range start end) (window w k) ≡ true → handed bytes-read b l w ≡ readRun b l w k start end
   unfolding readRun
@@ -262,7 +264,7 @@ module _ (b l w buffer : List ℕ) (k start end : ℕ) where
   read-refused {n} {r} {after} d nz R = by-bool (liesIn (range start end) (window w k))
       (λ h. absurd (nz (d .code ∙ ap (λ (x : Ran). x .answer .code) (sym (within h)))))
       (λ h.
-      let is : n ≡ 7 = d .code ∙ ap (λ (x : Ran). x .answer .code) (sym (outside h)) in
+      let is : n ≡ Code.outsideWindow = d .code ∙ ap (λ (x : Ran). x .answer .code) (sym (outside h)) in
       let same : after ≡ buffer = d .buffer-is ∙ ap (λ (x : Ran). overlay (x .answer .bytes) buffer) (sym (outside h)) in
       replies-same (outside h)
       (subst (λ i. Replies (code i) r buffer after) is
@@ -274,9 +276,9 @@ module _ {b w buffer : List ℕ} {me : ℕ} (A : ReceiveAsks b w buffer me) (l :
   abbrev taken : Ran
   taken = answered 0 (sumOf w (oldest me)) (oldestBytes b me) (receivedBytes b me) l (receivedWords w me)
 
-  empty : countOf b me ≡ 0 → over 15 b l w ≡ receiveRun b l w me
+  empty : countOf b me ≡ 0 → over Code.boxEmpty b l w ≡ receiveRun b l w me
   unfolding receiveRun receiveStop first _when_
-  empty z = stopped b l w taken 15 (rw (eq-eqb (countOf b me) 0 z) refl) (omega arith)
+  empty z = stopped b l w taken Code.boxEmpty (rw (eq-eqb (countOf b me) 0 z) refl) (omega arith)
 
   some : countOf b me ≢ 0 → taken ≡ receiveRun b l w me
   unfolding receiveRun receiveStop first _when_
@@ -284,7 +286,7 @@ module _ {b w buffer : List ℕ} {me : ℕ} (A : ReceiveAsks b w buffer me) (l :
 
   module _ {n sum count : ℕ} {b′ w′ buffer′ : List ℕ}
       (M : Mail.Receives b w buffer me n sum count b′ w′ buffer′) where
-    pub receive-count : count ≤ 16
+    pub receive-count : count ≤ Limit.message
     unfolding answered over code
     receive-count =
         let long : length (receiveRun b l w me .answer .bytes) ≡ count =

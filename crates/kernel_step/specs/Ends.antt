@@ -13,10 +13,11 @@ use Rattle.call_steps.specs.declared.request.Request.{Request}
 use Rattle.call_steps.specs.declared.request.Reply.{Reply}
 use Rattle.call_steps.specs.Request.{answerOf}
 use Rattle.call_steps.specs.Run.{Ran, overlay}
+use Rattle.call_enter.specs.Entry.{OwnPart}
 use Rattle.call_mail.specs.Runs.{receiveRun}
 use Rattle.kernel_step.specs.Slices.{Slices, Store, callOn}
 use Rattle.kernel_step.specs.Own.{ownRun}
-use Rattle.kernel_step.specs.Run.{lateRun, stepRun}
+use Rattle.kernel_step.specs.Run.{stepRun}
 
 -- the reply and the buffer are this answer: "writes its bytes at the buffer's front and changes no later byte"
 pub record Replies (a : Answer) (r : Reply) (buffer buffer′ : List ℕ) : Type 0 where
@@ -72,15 +73,15 @@ pub record Ends (c : Call) (x : Ran) (r : Reply) (was is : Slices) : Type 0 wher
   pub store : Store is (x .bytes) (x .links) (x .words)
   pub scratch : is .scratch ≡ scratchAfter (op (c .number)) (x .answer .code) (was .scratch)
 
--- ---- the three levels of the code
+-- ---- the two levels of the code
+
+-- any own part
+abbrev pub OwnEndsOf : OwnPart → Request → List ℕ → ℕ → ℕ → Reply → Slices → Slices → Type 0
+OwnEndsOf own q text me k r was is = Ends (callOn q text was)
+    (own (was .bytes) (was .links) (was .words) (callOn q text was) me k (op (q .number))) r was is
 
 abbrev pub OwnEnds : Request → List ℕ → ℕ → ℕ → Reply → Slices → Slices → Type 0
-OwnEnds q text me k r was is = Ends (callOn q text was)
-    (ownRun (was .bytes) (was .links) (was .words) (callOn q text was) me k (op (q .number))) r was is
-
-abbrev pub LateEnds : Request → List ℕ → ℕ → Reply → Slices → Slices → Type 0
-LateEnds q text me r was is = Ends (callOn q text was)
-    (lateRun (was .bytes) (was .links) (was .words) (callOn q text was) me) r was is
+OwnEnds = OwnEndsOf ownRun
 
 abbrev pub StepEnds : Request → List ℕ → Reply → Slices → Slices → Type 0
 StepEnds q text r was is = Ends (callOn q text was)

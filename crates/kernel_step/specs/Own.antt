@@ -5,6 +5,7 @@ use mathlib.Core.List.{List}
 use Rattle.rules.specs.Rights.{Op, makeObj, read, write, capInfo, deriveCap, deleteCap, renameObj, withdraw}
 use Rattle.rules.specs.Rights.{deposit, suspend, resume, applyLock, send, receive, wait, revive, unknown}
 use Rattle.rules.specs.Call.{Call}
+use Rattle.rules.specs.Code as Code
 use Rattle.call_steps.specs.Run.{Ran, over}
 use Rattle.call_marks.specs.Runs.{suspendedRun, lockRun, waitRun, reviveRun, infoRun}
 use Rattle.call_purse.specs.Calls.{withdrawRun, depositRun}
@@ -32,4 +33,4 @@ ownRun b l w c me k send = sendRun b l w (c .bytes) me k (c .sum)
 ownRun b l w c me k receive = receiveRun b l w me
 ownRun b l w c me k wait = waitRun b l w me
 ownRun b l w c me k revive = reviveRun b l w me k (c .sum)
-ownRun b l w c me k unknown = over 0 b l w
+ownRun b l w c me k unknown = over Code.outOfRange b l w

@@ -3,18 +3,14 @@ ghost use Rattle.layout.specs.WellFormed.{WellFormed};
 ghost use Rattle.kernel_step.specs.Slices.{slices};
 ghost use Rattle.kernel_step.specs.Steps.{Stepped};
 
-mod later;
 mod own;
 mod replies;
 
-use call_steps::objects::find_object;
-use call_steps::objects::running;
-use call_steps::pay::pay;
-use call_steps::ranges::in_range;
+use call_enter::enter::enter;
 use call_steps::request::Reply;
 use call_steps::request::Request;
-use later::late;
-use values::fees::fee_of;
+use own::own;
+use values::code::DONE;
 
 // Any call, done or refused; `text` are write's data or send's message.
 pub fn step(
@@ -31,16 +27,27 @@ pub fn step(
         (slices (now (bytes .entry)) (now (links .entry)) (now (words .entry)) (now (buffer .entry)) (now (scratch .entry)))
         (slices (now (bytes .exit)) (now (links .exit)) (now (words .exit)) (now (buffer .exit)) (now (scratch .exit))) ⌝ }
 {
-    if in_range(req, text.len(), buffer.len(), scratch.len()) {
-        let me = find_object(bytes, links, req.caller);
-        if running(bytes, links, me) {
-            let fee = fee_of(req.number);
-            if pay(bytes, words, me, fee) {
-                return late(bytes, links, words, text, buffer, scratch, me, req);
-            }
-            return Reply::refused(4);
-        }
-        return Reply::refused(3);
+    let e = enter(
+        bytes,
+        links,
+        words,
+        req,
+        text.len(),
+        buffer.len(),
+        scratch.len(),
+    );
+    if e.code == DONE {
+        return own(
+            bytes,
+            links,
+            words,
+            text,
+            buffer,
+            scratch,
+            e.me,
+            e.slot,
+            req,
+        );
     }
-    Reply::refused(2)
+    Reply::refused(e.code)
 }

@@ -18,6 +18,7 @@ use call_rename::rename::rename_obj;
 use call_steps::request::Reply;
 use call_steps::request::Request;
 use call_transfer::write::write;
+use values::code::OUT_OF_RANGE;
 
 // The call's own part; slot me is the caller's, slot k that of the capability presented.
 pub fn own(
@@ -44,20 +45,20 @@ pub fn own(
     match n {
         1 => make_obj(bytes, links, words, req),
         2 => replies::read(bytes, links, words, buffer, k, range),
-        3 => Reply::refused(write(bytes, links, words, text, k, range.start, range.end)),
+        3 => Reply::answered(write(bytes, links, words, text, k, range.start, range.end)),
         4 => replies::cap_info(words, k),
         5 => derive_cap(bytes, links, words, k, req.rights, range, drawn),
-        6 => Reply::refused(delete_cap(bytes, links, words, scratch, k)),
+        6 => Reply::answered(delete_cap(bytes, links, words, scratch, k)),
         7 => rename_obj(bytes, links, words, scratch, k, drawn),
-        8 => Reply::refused(call_purse::withdraw(links, words, me, k, req.sum)),
-        9 => Reply::refused(call_purse::deposit(links, words, me, k, req.sum)),
-        10 => Reply::refused(suspend(bytes, links, k)),
-        11 => Reply::refused(resume(bytes, links, k)),
-        12 => Reply::refused(apply_lock(bytes, links, words, k, lock)),
-        13 => Reply::refused(send(bytes, links, words, text, me, k, req.sum)),
+        8 => Reply::answered(call_purse::withdraw(links, words, me, k, req.sum)),
+        9 => Reply::answered(call_purse::deposit(links, words, me, k, req.sum)),
+        10 => Reply::answered(suspend(bytes, links, k)),
+        11 => Reply::answered(resume(bytes, links, k)),
+        12 => Reply::answered(apply_lock(bytes, links, words, k, lock)),
+        13 => Reply::answered(send(bytes, links, words, text, me, k, req.sum)),
         14 => replies::receive(bytes, words, buffer, me),
-        15 => Reply::refused(wait(bytes, me)),
-        16 => Reply::refused(revive(bytes, links, words, me, k, req.sum)),
-        _ => Reply::refused(2),
+        15 => Reply::answered(wait(bytes, me)),
+        16 => Reply::answered(revive(bytes, links, words, me, k, req.sum)),
+        _ => Reply::refused(OUT_OF_RANGE),
     }
 }

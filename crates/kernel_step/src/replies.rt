@@ -9,6 +9,7 @@ ghost use Rattle.kernel_step.specs.Ends.{Replies, Hands, Receives};
 use call_steps::request::Capability;
 use call_steps::request::Name;
 use call_steps::request::Reply;
+use values::code::DONE;
 use values::window::Window;
 
 // A done call that hands over a sum and `count` bytes.
@@ -16,7 +17,7 @@ fn hands_over(sum: u32, count: u32) -> Reply
     ensures { λ r. ⌜ Hands r sum count ⌝ }
 {
     Reply {
-        code: 0,
+        code: DONE,
         capability: Capability {
             name: Name {
                 volume: 0,
@@ -45,7 +46,7 @@ pub fn read(
         r (now (buffer .entry)) (now (buffer .exit)) ⌝ }
 {
     let code = call_transfer::read::read(bytes, links, words, buffer, k, range.start, range.end);
-    if code == 0 {
+    if code == DONE {
         return hands_over(0, range.end - range.start);
     }
     Reply::refused(code)
@@ -58,7 +59,7 @@ pub fn receive(bytes: &mut [u8], words: &mut [u32], buffer: &mut [u8], me: usize
         (now (bytes .exit)) (now (words .exit)) (now (buffer .exit))) ⌝ }
 {
     let m = call_mail::receive::receive(bytes, words, buffer, me);
-    if m.code == 0 {
+    if m.code == DONE {
         return hands_over(m.sum, m.count as u32);
     }
     Reply::refused(m.code)
@@ -72,7 +73,7 @@ pub fn cap_info(words: &[u32], k: usize) -> Reply
 {
     let info = call_marks::info::cap_info(words, k);
     Reply {
-        code: 0,
+        code: DONE,
         capability: Capability {
             name: Name {
                 volume: 0,

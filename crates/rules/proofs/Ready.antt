@@ -9,13 +9,14 @@ use lib.Dec.{eqb, leb, ltb}
 use borrow.Author.Tests.{eqb-false, leb-true, ltb-true, ltb-false}
 use Rattle.rules.specs.Store.{State, objectNamed}
 use Rattle.rules.specs.Valid.{Objects}
-use Rattle.rules.specs.Rights.{has, Op, makeObj, read, write, capInfo, deriveCap, deleteCap, renameObj}
+use Rattle.rules.specs.Rights.{Op, makeObj, read, write, capInfo, deriveCap, deleteCap, renameObj}
 use Rattle.rules.specs.Rights.{withdraw, deposit, suspend, resume, applyLock, send, receive, wait, revive}
 use Rattle.rules.specs.Rights.{unknown, op, feeOf, asked, presents}
 use Rattle.rules.specs.Call.{Call}
+use Rattle.rules.specs.Code as Code
 use Rattle.rules.specs.Password.{presented}
 use Rattle.rules.specs.Refusals.{Refusal, _when_, first, nameFits, argumentsFit, inRange, caller, running}
-use Rattle.rules.specs.Refusals.{early, presenting}
+use Rattle.rules.specs.Refusals.{early, showing, presenting}
 use Rattle.rules.specs.Update.{withHouse, withCash}
 use Rattle.rules.specs.Changes.{spend, toHouse}
 use Rattle.rules.specs.Calls.{makeObjRefuses, transferRefuses, deriveCapRefuses, renameObjRefuses}
@@ -70,14 +71,29 @@ unmet-append : (a b : List Refusal) → Unmet (a ++ b) → Unmet a × Unmet b
 unmet-append [] b h = (tt, h)
 unmet-append (r ∷ a) b h = let g = unmet-append a b (h .1) in ((h .0, g .0), g .1)
 
+-- of two lists one after the other, the first that is met
+first-front : (a b : List Refusal) → first a ≢ 0 → first (a ++ b) ≡ first a
+unfolding first
+first-front [] b h = absurd (h refl)
+first-front (r ∷ a) b h = by-bool (r .met)
+    (λ q. pick-yes (r .met) (r .number) (first (a ++ b)) q ∙ sym (pick-yes (r .met) (r .number) (first a) q))
+    (λ q.
+    let f = pick-not (r .met) (r .number) (first a) q in
+    pick-not (r .met) (r .number) (first (a ++ b)) q ∙ first-front a b (λ z. h (f ∙ z)) ∙ sym f)
+
+first-append : (a b : List Refusal) → Unmet a → first (a ++ b) ≡ first b
+unfolding first
+first-append [] b h = refl
+first-append (r ∷ a) b h = pick-not (r .met) (r .number) (first (a ++ b)) (h .0) ∙ first-append a b (h .1)
+
 -- ---- 2, 3 and 4
 
 module _ (s : State) (c : Call) where
   abbrev earlies : List Refusal
   earlies =
-      2 when not (inRange c)
-      ∷ 3 when not (running s (caller s c))
-      ∷ 4 when ltb (s .cash (caller s c)) (feeOf (c .number))
+      Code.outOfRange when not (inRange c)
+      ∷ Code.notRunning when not (running s (caller s c))
+      ∷ Code.cannotPay when ltb (s .cash (caller s c)) (feeOf (c .number))
       ∷ []
 
   early-none : early s c ≡ 0
@@ -92,12 +108,12 @@ module _ (s : State) (c : Call) where
   early-low h = leb-true _ _ (first-in (λ n. leb n 4) earlies refl h)
 
   -- 4 is met only where the caller runs
-  early-four : early s c ≡ 4 → running s (caller s c) ≡ true
+  early-four : early s c ≡ Code.cannotPay → running s (caller s c) ≡ true
   unfolding early _when_
   early-four e =
-      let l : List Refusal = 4 when ltb (s .cash (caller s c)) (feeOf (c .number)) ∷ [] in
-      let f = first-skip (2 when not (inRange c)) (3 when not (running s (caller s c)) ∷ l) 4 e (λ z. omega arith) in
-      let g = first-skip (3 when not (running s (caller s c))) l 4 (f .1) (λ z. omega arith) in
+      let l : List Refusal = Code.cannotPay when ltb (s .cash (caller s c)) (feeOf (c .number)) ∷ [] in
+      let f = first-skip (Code.outOfRange when not (inRange c)) (Code.notRunning when not (running s (caller s c)) ∷ l) Code.cannotPay e (λ z. omega arith) in
+      let g = first-skip (Code.notRunning when not (running s (caller s c))) l Code.cannotPay (f .1) (λ z. omega arith) in
       not-is-false (running s (caller s c)) (g .0)
 
   -- the caller that runs is a living process of its name
@@ -116,14 +132,42 @@ module _ (s : State) (c : Call) where
       → Process (s .object) (caller s c) × (feeOf (c .number) ≤ s .cash (caller s c))
   payer O e = let a = early-none e in (runner O (a .1) .0, a .2)
 
-  pub stopper : Objects (s .object) → early s c ≡ 4 → Process (s .object) (caller s c)
+  pub stopper : Objects (s .object) → early s c ≡ Code.cannotPay → Process (s .object) (caller s c)
   stopper O e = runner O (early-four e) .0
+
+-- ---- 5 and 6
+
+module _ (s : State) (k : ℕ) (o : Op) where
+  pub presenting-some : presents o ≡ true → presenting s k o ≡ showing s k (asked o)
+  unfolding presenting
+  presenting-some p = pick-yes (presents o) (showing s k (asked o)) [] p
+
+  pub presenting-none : presents o ≡ false → presenting s k o ≡ []
+  unfolding presenting
+  presenting-none p = pick-not (presents o) (showing s k (asked o)) [] p
+
+  presenting-numbers : numbers (λ n. ltb 4 n) (presenting s k o) ≡ true
+  unfolding numbers showing _when_
+  presenting-numbers = by-bool (presents o)
+      (λ p. ap (numbers (λ n. ltb 4 n)) (presenting-some p))
+      (λ p. ap (numbers (λ n. ltb 4 n)) (presenting-none p))
+
+  unmet-shown : first (presenting s k o) ≡ 0 → Unmet (presenting s k o)
+  unmet-shown e = none-met (λ n. ltb 4 n) (presenting s k o) refl presenting-numbers e
+
+  -- 5 is not met
+  some-shown : presents o ≡ true → Unmet (presenting s k o) → k ≢ 0
+  unfolding showing _when_
+  some-shown p u = eqb-false _ _ (subst Unmet (presenting-some p) u .0)
+
+  pub slot-shown : presents o ≡ true → first (presenting s k o) ≡ 0 → k ≢ 0
+  slot-shown p e = some-shown p (unmet-shown e)
 
 -- ---- 5, 6 and the call's own
 
 module _ (s : State) (c : Call) (me k : ℕ) where
   late-numbers : (o : Op) → numbers (λ n. ltb 4 n) (presenting s k o ++ refuses s c me k o) ≡ true
-  unfolding numbers presenting presents refuses _when_ makeObjRefuses transferRefuses deriveCapRefuses renameObjRefuses
+  unfolding numbers showing presenting presents refuses _when_ makeObjRefuses transferRefuses deriveCapRefuses renameObjRefuses
       withdrawRefuses depositRefuses processRefuses sendRefuses receiveRefuses reviveRefuses
   late-numbers makeObj = refl
   late-numbers read = refl
@@ -143,19 +187,12 @@ module _ (s : State) (c : Call) (me k : ℕ) where
   late-numbers revive = refl
   late-numbers unknown = refl
 
-  -- 5 is not met
-  shown-some : (o : Op) → presents o ≡ true → Unmet (presenting s k o) → k ≢ 0
-  unfolding presenting _when_
-  shown-some o p u =
-      let l : List Refusal = 5 when eqb k 0 ∷ 6 when not (has (s .cap k .rights) (asked o)) ∷ [] in
-      eqb-false _ _ (subst Unmet (pick-yes (presents o) l [] p) u .0)
-
   late-none : (o : Op) → first (presenting s k o ++ refuses s c me k o) ≡ 0
       → (presents o ≡ true → k ≢ 0) × Unmet (refuses s c me k o)
   late-none o e =
       let a = none-met (λ n. ltb 4 n) _ refl (late-numbers o) e in
       let u = unmet-append (presenting s k o) (refuses s c me k o) a in
-      (λ p. shown-some o p (u .0), u .1)
+      (λ p. some-shown s k o p (u .0), u .1)
 
 -- they are all after 4
 pub late-high : (s : State) (c : Call) (k : ℕ) → late s c k ≢ 0 → 4 < late s c k
@@ -164,6 +201,22 @@ late-high s c k h =
     let o : Op = op (c .number) in
     ltb-true _ _ (first-in (λ n. ltb 4 n) (presenting s k o ++ refuses s c (caller s c) k o)
     (late-numbers s c (caller s c) k o) h)
+
+-- 5 or 6 where one is met, else the first of the call's own
+module _ (s : State) (c : Call) (k : ℕ) where
+  abbrev shows : List Refusal
+  shows = presenting s k (op (c .number))
+
+  abbrev owns : List Refusal
+  owns = refuses s c (caller s c) k (op (c .number))
+
+  pub late-shown : first shows ≢ 0 → late s c k ≡ first shows
+  unfolding late
+  late-shown nz = first-front shows owns nz
+
+  pub late-own : first shows ≡ 0 → late s c k ≡ first owns
+  unfolding late
+  late-own z = first-append shows owns (unmet-shown s k (op (c .number)) z)
 
 -- ---- where a call is done; s is what the fee left, me the caller's slot, k that of the capability presented
 

@@ -10,6 +10,8 @@ use Rattle.rules.specs.Rights.{Op, makeObj, read, write, capInfo, derive
 use Rattle.rules.specs.Rights.{deposit, suspend, resume, applyLock, send, receive, wait, revive, unknown, op}
 use Rattle.rules.specs.Rights.{feeOf, asked, presents, has}
 use Rattle.rules.specs.Call.{Call}
+use Rattle.rules.specs.Code as Code
+use Rattle.rules.specs.Limit as Limit
 
 infix 70 _when_
 -- a refusal's number, and whether it is met
@@ -28,36 +30,36 @@ first (r ∷ l) = elim (r .met) [ true ↦ r .number | false ↦ first l ]
 -- ---- 2: unknown call or an argument out of range
 
 unfoldable pub nameFits : Name → Bool
-nameFits n = leb (n .volume) 3 && leb (n .serial) 65535
+nameFits n = leb (n .volume) Limit.volume && leb (n .serial) Limit.serial
 
 unfoldable pub ordered : Window → Bool
 ordered r = leb (r .start) (r .end)
 
 -- a read or write of at most 256 bytes
 unfoldable pub transferFits : Window → Bool
-transferFits r = ordered r && leb (r .end - r .start) 256
+transferFits r = ordered r && leb (r .end - r .start) Limit.transfer
 
 unfoldable pub bufferFits : Call → Bool
-bufferFits c = leb 256 (c .buffer)
+bufferFits c = leb Limit.buffer (c .buffer)
 
 unfoldable pub scratchFits : Call → Bool
-scratchFits c = leb 512 (c .scratch)
+scratchFits c = leb Limit.scratch (c .scratch)
 
 -- the ranges of a call's own arguments; password halves, sums, starts, ends and second lock words are any 32-bit number
 unfoldable pub argumentsFit : Op → Call → Bool
-argumentsFit makeObj c = nameFits (c .name) && leb (c .size) 8192 && leb (c .flag) 1 && leb (c .rights) 8191
+argumentsFit makeObj c = nameFits (c .name) && leb (c .size) Limit.size && leb (c .flag) 1 && leb (c .rights) Limit.rights
 argumentsFit read c = transferFits (c .range) && bufferFits c
 argumentsFit write c = transferFits (c .range) && eqb (length (c .bytes)) (c .range .end - c .range .start)
 argumentsFit capInfo c = true
-argumentsFit deriveCap c = leb (c .rights) 8191 && ordered (c .range)
+argumentsFit deriveCap c = leb (c .rights) Limit.rights && ordered (c .range)
 argumentsFit deleteCap c = scratchFits c
 argumentsFit renameObj c = scratchFits c
 argumentsFit withdraw c = true
 argumentsFit deposit c = true
 argumentsFit suspend c = true
 argumentsFit resume c = true
-argumentsFit applyLock c = ltb (c .lock .first) 2147483648
-argumentsFit send c = leb (length (c .bytes)) 16
+argumentsFit applyLock c = ltb (c .lock .first) Limit.top
+argumentsFit send c = leb (length (c .bytes)) Limit.message
 argumentsFit receive c = bufferFits c
 argumentsFit wait c = true
 argumentsFit revive c = true
@@ -85,20 +87,23 @@ running s me =
 -- ---- 2, 3 and 4, in order; 4: cash below the fee
 unfoldable pub early : State → Call → ℕ
 early s c = first
-    (2 when not (inRange c)
-    ∷ 3 when not (running s (caller s c))
-    ∷ 4 when ltb (s .cash (caller s c)) (feeOf (c .number))
+    (Code.outOfRange when not (inRange c)
+    ∷ Code.notRunning when not (running s (caller s c))
+    ∷ Code.cannotPay when ltb (s .cash (caller s c)) (feeOf (c .number))
     ∷ [])
 
--- ---- 5, no such object or password, and 6, right missing, where a capability is presented; k is its slot
+-- ---- 5, no such object or password, and 6, right missing
+
+-- k is the slot of the capability presented, of which the right is asked
+unfoldable pub showing : State → ℕ → ℕ → List Refusal
+showing s k right = Code.notFound when eqb k 0 ∷ Code.rightMissing when not (has (s .cap k .rights) right) ∷ []
+
+-- of a call: the right that it asks, where it presents a capability
 unfoldable pub presenting : State → ℕ → Op → List Refusal
-presenting s k o = elim (presents o) [
-  | true ↦ 5 when eqb k 0 ∷ 6 when not (has (s .cap k .rights) (asked o)) ∷ []
-  | false ↦ []
-]
+presenting s k o = elim (presents o) [ true ↦ showing s k (asked o) | false ↦ [] ]
 
 -- a theorem that computes with this file's definitions says `unfolding` and this name
 unfoldable pub computes : Unit {0}
 unfolding _when_ first nameFits ordered transferFits bufferFits scratchFits argumentsFit inRange caller running early
-    presenting
+    showing presenting
 computes = tt

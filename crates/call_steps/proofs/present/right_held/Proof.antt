@@ -1,4 +1,4 @@
--- `right_held` reads the rights, and asks for the call's.
+-- `right_held` reads the rights.
 use borrow.Author.Needs.{needs}
 use Rattle.call_steps.proofs.Holding.{rights-is}
 use Rattle.call_steps.proofs.present.right_held.Statement.{statement}
@@ -13,17 +13,14 @@ mul-t6 c = search needs
 shared-slice-read-t8 : tie.Need-shared-slice-read-t8
 shared-slice-read-t8 c = search needs
 
-asked-requires : tie.Need-asked-requires
-asked-requires c κs = search needs
-
 has-requires : tie.Need-has-requires
 has-requires c κs = search needs
 
 returns : tie.Need-returns
 returns c b w =
-    let s = c .before .before .before .before in
-    rw (rights-is b (s .args .links .now) w (s .args .k) (s .pre .1), ← c .before .asked .ensures) (c .has .ensures)
+    let s = c .before .before .before in
+    rw (rights-is b (s .args .links .now) w (s .args .k) (s .pre .1)) (c .has .ensures)
 
 pub right-held-spec : {M : Type 1} → statement M
 right-held-spec =
-    tie.close (tie.spec add-t5 mul-t6 shared-slice-read-t8 asked-requires has-requires returns)
+    tie.close (tie.spec add-t5 mul-t6 shared-slice-read-t8 has-requires returns)

@@ -44,8 +44,8 @@ write-requires c κs =
     let a = start (m .before) in
     write-asked (a .pre) (ap op (m .match .keys3))
 
-refused-requires : tie.Need-refused-requires
-refused-requires c κs = search needs
+answered-requires : tie.Need-answered-requires
+answered-requires c κs = search needs
 
 cap-info-requires : tie.Need-cap-info-requires
 unfolding op callOf
@@ -68,8 +68,8 @@ delete-cap-requires c κs =
     let a = start (m .before) in
     delete-asked (a .pre) (ap op (m .match .keys6))
 
-refused-requires-2 : tie.Need-refused-requires-2
-refused-requires-2 c κs = search needs
+answered-requires-2 : tie.Need-answered-requires-2
+answered-requires-2 c κs = search needs
 
 rename-obj-requires : tie.Need-rename-obj-requires
 unfolding op callOf
@@ -85,8 +85,8 @@ withdraw-requires c κs =
     let a = start (m .before) in
     withdraw-asked (a .pre) (ap op (m .match .keys8))
 
-refused-requires-3 : tie.Need-refused-requires-3
-refused-requires-3 c κs = search needs
+answered-requires-3 : tie.Need-answered-requires-3
+answered-requires-3 c κs = search needs
 
 deposit-requires : tie.Need-deposit-requires
 unfolding op callOf
@@ -95,8 +95,8 @@ deposit-requires c κs =
     let a = start (m .before) in
     deposit-asked (a .pre) (ap op (m .match .keys9))
 
-refused-requires-4 : tie.Need-refused-requires-4
-refused-requires-4 c κs = search needs
+answered-requires-4 : tie.Need-answered-requires-4
+answered-requires-4 c κs = search needs
 
 suspend-requires : tie.Need-suspend-requires
 unfolding op callOf
@@ -105,8 +105,8 @@ suspend-requires c κs =
     let a = start (m .before) in
     suspend-asked (a .pre) (ap op (m .match .keys10))
 
-refused-requires-5 : tie.Need-refused-requires-5
-refused-requires-5 c κs = search needs
+answered-requires-5 : tie.Need-answered-requires-5
+answered-requires-5 c κs = search needs
 
 resume-requires : tie.Need-resume-requires
 unfolding op callOf
@@ -115,8 +115,8 @@ resume-requires c κs =
     let a = start (m .before) in
     resume-asked (a .pre) (ap op (m .match .keys11))
 
-refused-requires-6 : tie.Need-refused-requires-6
-refused-requires-6 c κs = search needs
+answered-requires-6 : tie.Need-answered-requires-6
+answered-requires-6 c κs = search needs
 
 apply-lock-requires : tie.Need-apply-lock-requires
 unfolding op callOf
@@ -125,8 +125,8 @@ apply-lock-requires c κs =
     let a = start (m .before) in
     lock-asked (a .pre) (ap op (m .match .keys12))
 
-refused-requires-7 : tie.Need-refused-requires-7
-refused-requires-7 c κs = search needs
+answered-requires-7 : tie.Need-answered-requires-7
+answered-requires-7 c κs = search needs
 
 send-requires : tie.Need-send-requires
 unfolding op callOf
@@ -135,8 +135,8 @@ send-requires c κs =
     let a = start (m .before) in
     send-asked (a .pre) (ap op (m .match .keys13))
 
-refused-requires-8 : tie.Need-refused-requires-8
-refused-requires-8 c κs = search needs
+answered-requires-8 : tie.Need-answered-requires-8
+answered-requires-8 c κs = search needs
 
 receive-requires : tie.Need-receive-requires
 unfolding op callOf
@@ -148,8 +148,8 @@ receive-requires c κs =
 wait-requires : tie.Need-wait-requires
 wait-requires c κs = search needs
 
-refused-requires-9 : tie.Need-refused-requires-9
-refused-requires-9 c κs = search needs
+answered-requires-9 : tie.Need-answered-requires-9
+answered-requires-9 c κs = search needs
 
 revive-requires : tie.Need-revive-requires
 unfolding op callOf
@@ -158,11 +158,11 @@ revive-requires c κs =
     let a = start (m .before) in
     revive-asked (a .pre) (ap op (m .match .keys16))
 
-refused-requires-10 : tie.Need-refused-requires-10
-refused-requires-10 c κs = search needs
+answered-requires-10 : tie.Need-answered-requires-10
+answered-requires-10 c κs = search needs
 
-refused-requires-11 : tie.Need-refused-requires-11
-refused-requires-11 c κs = search needs
+refused-requires : tie.Need-refused-requires
+refused-requires c κs = search needs
 
 same-length : tie.Need-same-length
 same-length c = search needs
@@ -178,7 +178,7 @@ unfolding op callOf ownRun clears
 returns c =
     let m = c .before .before .before .before .before .before .before .before .before .before in
     let a = start (m .before) in
-    arm-reply (a .args .req) (a .args .text .now) (a .args .me) (a .args .k) (was a) 1 (m .match .keys1) refl
+    arm-reply ownRun (a .args .req) (a .args .text .now) (a .args .me) (a .args .k) (was a) 1 (m .match .keys1) refl
     (c .before .before .before .before .before .before .make-obj .ensures) refl refl
 
 same-length-4 : tie.Need-same-length-4
@@ -200,7 +200,7 @@ returns-2 c =
     let a = start (m .before) in
     let S = read-store (a .args .bytes .now) (a .args .links .now) (a .args .words .now) (a .args .buffer .now)
     (a .args .k) (a .args .req .range .start) (a .args .req .range .end) in
-    arm-more (a .args .req) (a .args .text .now) (a .args .me) (a .args .k) (was a) 2 (m .match .keys2) refl
+    arm-more ownRun (a .args .req) (a .args .text .now) (a .args .me) (a .args .k) (was a) 2 (m .match .keys2) refl
     (c .before .before .read .ensures) (record { bytes = S .bytes; links = S .links; words = S .words }) refl
 
 same-length-8 : tie.Need-same-length-8
@@ -217,8 +217,8 @@ unfolding op callOf ownRun clears
 returns-3 c =
     let m = c .before .before .before .before .before .before .before in
     let a = start (m .before) in
-    arm-code (a .args .req) (a .args .text .now) (a .args .me) (a .args .k) (was a) 3 (m .match .keys3) refl
-    (c .refused .ensures) (c .before .before .before .write .ensures) refl refl
+    arm-code ownRun (a .args .req) (a .args .text .now) (a .args .me) (a .args .k) (was a) 3 (m .match .keys3) refl
+    (c .answered .ensures) (c .before .before .before .write .ensures) refl refl
 
 same-length-11 : tie.Need-same-length-11
 same-length-11 c = search needs
@@ -228,7 +228,7 @@ unfolding op callOf ownRun clears infoRun told
 returns-4 c =
     let m = c .before .before in
     let a = start (m .before) in
-    arm-more (a .args .req) (a .args .text .now) (a .args .me) (a .args .k) (was a) 4 (m .match .keys4) refl
+    arm-more ownRun (a .args .req) (a .args .text .now) (a .args .me) (a .args .k) (was a) 4 (m .match .keys4) refl
     (c .cap-info .ensures (a .args .bytes .now) (a .args .links .now) (a .args .buffer .now))
     (record { bytes = refl; links = refl; words = refl }) refl
 
@@ -246,7 +246,7 @@ unfolding op callOf ownRun clears
 returns-5 c =
     let m = c .before .before .before .before .before .before .before .before in
     let a = start (m .before) in
-    arm-reply (a .args .req) (a .args .text .now) (a .args .me) (a .args .k) (was a) 5 (m .match .keys5) refl
+    arm-reply ownRun (a .args .req) (a .args .text .now) (a .args .me) (a .args .k) (was a) 5 (m .match .keys5) refl
     (c .before .before .before .before .derive-cap .ensures) refl refl
 
 same-length-15 : tie.Need-same-length-15
@@ -268,8 +268,8 @@ returns-6 c =
     let a = start (m .before) in
     let q = c .before .before .before .before .before .before .before .delete-cap .ensures in
     let z = deleted-code (a .args .bytes .now) (a .args .links .now) (a .args .words .now) (a .args .k) _ _ _ (q .run) in
-    arm-done (a .args .req) (a .args .text .now) (a .args .me) (a .args .k) (was a) 6 (m .match .keys6) refl
-    z (c .refused2 .ensures) (q .run) refl (q .zeros)
+    arm-done ownRun (a .args .req) (a .args .text .now) (a .args .me) (a .args .k) (was a) 6 (m .match .keys6) refl
+    z (c .answered2 .ensures) (q .run) refl (q .zeros)
 
 same-length-19 : tie.Need-same-length-19
 same-length-19 c = search needs
@@ -289,7 +289,7 @@ returns-7 c =
     let m = c .before .before .before .before .before .before .before .before .before .before .before in
     let a = start (m .before) in
     let q = c .before .before .before .before .before .before .rename-obj .ensures in
-    arm-cleared (a .args .req) (a .args .text .now) (a .args .me) (a .args .k) (was a) 7 (m .match .keys7) refl
+    arm-cleared ownRun (a .args .req) (a .args .text .now) (a .args .me) (a .args .k) (was a) 7 (m .match .keys7) refl
     (q .replies) refl (q .scratch-left)
 
 same-length-23 : tie.Need-same-length-23
@@ -303,8 +303,8 @@ unfolding op callOf ownRun clears
 returns-8 c =
     let m = c .before .before .before .before .before .before in
     let a = start (m .before) in
-    arm-code (a .args .req) (a .args .text .now) (a .args .me) (a .args .k) (was a) 8 (m .match .keys8) refl
-    (c .refused3 .ensures) (c .before .before .before .withdraw .ensures (a .args .bytes .now)) refl refl
+    arm-code ownRun (a .args .req) (a .args .text .now) (a .args .me) (a .args .k) (was a) 8 (m .match .keys8) refl
+    (c .answered3 .ensures) (c .before .before .before .withdraw .ensures (a .args .bytes .now)) refl refl
 
 same-length-25 : tie.Need-same-length-25
 same-length-25 c = search needs
@@ -317,8 +317,8 @@ unfolding op callOf ownRun clears
 returns-9 c =
     let m = c .before .before .before .before .before .before in
     let a = start (m .before) in
-    arm-code (a .args .req) (a .args .text .now) (a .args .me) (a .args .k) (was a) 9 (m .match .keys9) refl
-    (c .refused4 .ensures) (c .before .before .before .deposit .ensures (a .args .bytes .now)) refl refl
+    arm-code ownRun (a .args .req) (a .args .text .now) (a .args .me) (a .args .k) (was a) 9 (m .match .keys9) refl
+    (c .answered4 .ensures) (c .before .before .before .deposit .ensures (a .args .bytes .now)) refl refl
 
 same-length-27 : tie.Need-same-length-27
 same-length-27 c = search needs
@@ -331,8 +331,8 @@ unfolding op callOf ownRun clears
 returns-10 c =
     let m = c .before .before .before .before .before .before in
     let a = start (m .before) in
-    arm-code (a .args .req) (a .args .text .now) (a .args .me) (a .args .k) (was a) 10 (m .match .keys10) refl
-    (c .refused5 .ensures) (c .before .before .before .suspend .ensures (a .args .words .now)) refl refl
+    arm-code ownRun (a .args .req) (a .args .text .now) (a .args .me) (a .args .k) (was a) 10 (m .match .keys10) refl
+    (c .answered5 .ensures) (c .before .before .before .suspend .ensures (a .args .words .now)) refl refl
 
 same-length-29 : tie.Need-same-length-29
 same-length-29 c = search needs
@@ -345,8 +345,8 @@ unfolding op callOf ownRun clears
 returns-11 c =
     let m = c .before .before .before .before .before .before in
     let a = start (m .before) in
-    arm-code (a .args .req) (a .args .text .now) (a .args .me) (a .args .k) (was a) 11 (m .match .keys11) refl
-    (c .refused6 .ensures) (c .before .before .before .resume .ensures (a .args .words .now)) refl refl
+    arm-code ownRun (a .args .req) (a .args .text .now) (a .args .me) (a .args .k) (was a) 11 (m .match .keys11) refl
+    (c .answered6 .ensures) (c .before .before .before .resume .ensures (a .args .words .now)) refl refl
 
 same-length-31 : tie.Need-same-length-31
 same-length-31 c = search needs
@@ -362,8 +362,8 @@ unfolding op callOf ownRun clears
 returns-12 c =
     let m = c .before .before .before .before .before .before .before in
     let a = start (m .before) in
-    arm-code (a .args .req) (a .args .text .now) (a .args .me) (a .args .k) (was a) 12 (m .match .keys12) refl
-    (c .refused7 .ensures) (c .before .before .before .apply-lock .ensures) refl refl
+    arm-code ownRun (a .args .req) (a .args .text .now) (a .args .me) (a .args .k) (was a) 12 (m .match .keys12) refl
+    (c .answered7 .ensures) (c .before .before .before .apply-lock .ensures) refl refl
 
 same-length-34 : tie.Need-same-length-34
 same-length-34 c = search needs
@@ -379,8 +379,8 @@ unfolding op callOf ownRun clears
 returns-13 c =
     let m = c .before .before .before .before .before .before .before .before .before in
     let a = start (m .before) in
-    arm-code (a .args .req) (a .args .text .now) (a .args .me) (a .args .k) (was a) 13 (m .match .keys13) refl
-    (c .refused8 .ensures) (c .before .before .before .before .before .send .ensures) refl refl
+    arm-code ownRun (a .args .req) (a .args .text .now) (a .args .me) (a .args .k) (was a) 13 (m .match .keys13) refl
+    (c .answered8 .ensures) (c .before .before .before .before .before .send .ensures) refl refl
 
 same-length-37 : tie.Need-same-length-37
 same-length-37 c = search needs
@@ -397,7 +397,7 @@ returns-14 c =
     let m = c .before .before .before .before .before .before .before .before .before .before in
     let a = start (m .before) in
     let q = c .before .before .before .before .before .before .receive .ensures (a .args .links .now) in
-    arm-more (a .args .req) (a .args .text .now) (a .args .me) (a .args .k) (was a) 14 (m .match .keys14) refl
+    arm-more ownRun (a .args .req) (a .args .text .now) (a .args .me) (a .args .k) (was a) 14 (m .match .keys14) refl
     (q .replies) (record { bytes = q .bytes; links = q .links; words = q .words }) refl
 
 same-length-40 : tie.Need-same-length-40
@@ -408,8 +408,8 @@ unfolding op callOf ownRun clears
 returns-15 c =
     let m = c .before .before .before .before .before in
     let a = start (m .before) in
-    arm-code (a .args .req) (a .args .text .now) (a .args .me) (a .args .k) (was a) 15 (m .match .keys15) refl
-    (c .refused9 .ensures) (c .before .before .before .wait .ensures (a .args .links .now) (a .args .words .now)) refl refl
+    arm-code ownRun (a .args .req) (a .args .text .now) (a .args .me) (a .args .k) (was a) 15 (m .match .keys15) refl
+    (c .answered9 .ensures) (c .before .before .before .wait .ensures (a .args .links .now) (a .args .words .now)) refl refl
 
 same-length-41 : tie.Need-same-length-41
 same-length-41 c = search needs
@@ -425,8 +425,8 @@ unfolding op callOf ownRun clears
 returns-16 c =
     let m = c .before .before .before .before .before .before .before .before .before in
     let a = start (m .before) in
-    arm-code (a .args .req) (a .args .text .now) (a .args .me) (a .args .k) (was a) 16 (m .match .keys16) refl
-    (c .refused10 .ensures) (c .before .before .before .before .before .revive .ensures) refl refl
+    arm-code ownRun (a .args .req) (a .args .text .now) (a .args .me) (a .args .k) (was a) 16 (m .match .keys16) refl
+    (c .answered10 .ensures) (c .before .before .before .before .before .revive .ensures) refl refl
 
 returns-17 : tie.Need-returns-17
 unfolding callOf
@@ -439,30 +439,30 @@ own-spec =
     make-obj-requires
     read-requires
     write-requires
-    refused-requires
+    answered-requires
     cap-info-requires
     derive-cap-requires
     delete-cap-requires
-    refused-requires-2
+    answered-requires-2
     rename-obj-requires
     withdraw-requires
-    refused-requires-3
+    answered-requires-3
     deposit-requires
-    refused-requires-4
+    answered-requires-4
     suspend-requires
-    refused-requires-5
+    answered-requires-5
     resume-requires
-    refused-requires-6
+    answered-requires-6
     apply-lock-requires
-    refused-requires-7
+    answered-requires-7
     send-requires
-    refused-requires-8
+    answered-requires-8
     receive-requires
     wait-requires
-    refused-requires-9
+    answered-requires-9
     revive-requires
-    refused-requires-10
-    refused-requires-11
+    answered-requires-10
+    refused-requires
     same-length
     same-length-2
     same-length-3
