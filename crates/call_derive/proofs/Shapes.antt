@@ -1,4 +1,4 @@
--- The shape of the links with the child linked: its object's tree has one record more, the free chain one less.
+-- The shape of the links with the child linked: its object's tree has one record more, the free list one less.
 use Prim.Native.Nat.{ℕ, _+_, _≤_}
 use mathlib.Core.Path.{_≡_, refl, sym, ap, _∙_, subst}
 use mathlib.Core.Logic.{_≢_, _⊎_, ⊎-elim}

@@ -47,7 +47,7 @@ pub record MakeAsks (l w : List ℕ) : Type 0 where
   pub low : 1 ≤ freeCap l
   pub high : freeCap l ≤ Limit.caps
 
--- r is the slot that was first in the free chain; l′ and w′ are what is left of the slices l and w
+-- r is the slot that was first in the free list; l′ and w′ are what is left of the slices l and w
 pub record Makes (l w : List ℕ) (x : Cap) (next moneyword r : ℕ) (l′ w′ : List ℕ) : Type 0 where
   pub slot : r ≡ freeCap l
   pub links : l′ ≡ newLinks l (freeCap l) x next

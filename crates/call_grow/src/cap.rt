@@ -59,7 +59,7 @@ fn write_words(words: &mut [u32], i: usize, x: NewCap, moneyword: Moneyword)
     words[MONEY + i] = moneyword.0;
 }
 
-// The first record of the free chain leaves it and is written whole; its slot.
+// The first record of the free list leaves it and is written whole; its slot.
 pub fn new_cap(links: &mut [u16], words: &mut [u32], x: NewCap, moneyword: Moneyword) -> usize
     requires { ⌜ MakeAsks (now links) (now words) ⌝ }
     ensures { λ r. ⌜ Makes (now (links .entry)) (now (words .entry)) (capOf x) (x .next) (moneyword .0) r

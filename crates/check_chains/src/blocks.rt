@@ -1,4 +1,4 @@
-// 01, "a chain of exactly the blocks that its size needs", of every object; all other blocks are in the free chain.
+// 01, "a chain of exactly the blocks that its size needs", of every object; all other blocks are in the free list.
 ghost use mathlib.Core.Path.{_≡_};
 ghost use lib.ListN.{length};
 ghost use Rattle.rules.specs.Limit;
@@ -59,7 +59,7 @@ fn all_blocks(links: &[u16], seen: &mut [u8]) -> bool
     true
 }
 
-// Each block is in one object's chain or in the free chain, once.
+// Each block is in one object's chain or in the free list, once.
 pub fn check_blocks(links: &[u16]) -> bool
     requires { ⌜ length (now links) ≡ Layout.LINKS ⌝ }
     ensures { λ r. ⌜ Decides (Blocks (now (links .entry))) r ⌝ }

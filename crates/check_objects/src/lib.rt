@@ -1,5 +1,5 @@
-// The check of the objects of a store: the fields of each, and that their names differ. One pass does both, since a test
-// whether a slot is free is foretold wrongly by the processor where living and free slots are mixed.
+// The check of the objects of a store: the fields of each, and that their names differ. One pass does both, since the
+// processor mispredicts a test whether a slot is free where living and free slots are mixed.
 ghost use Rattle.rules.specs.Limit;
 ghost use Rattle.layout.specs.WellFormed.{Sized};
 ghost use Rattle.layout.specs.Decides.{Decides};

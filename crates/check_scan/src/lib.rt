@@ -1,6 +1,6 @@
 // One pass over the capabilities: the fields of each, its p1 in the hash table, and the masters' part of the total.
 // It goes by a list of the living slots, made first without a branch on what lives: where living and free slots are
-// mixed, the processor foretells such a branch wrongly half of the time.
+// mixed, the processor mispredicts such a branch half of the time.
 ghost use mathlib.Core.Path.{_≡_};
 ghost use Prim.Native.Nat.{_+_, _≤_};
 ghost use lib.ListN.{length};

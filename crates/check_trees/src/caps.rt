@@ -1,4 +1,4 @@
-// The capabilities: 01, "every object has one tree with one sound master"; all other records are in the free chain.
+// The capabilities: 01, "every object has one tree with one sound master"; all other records are in the free list.
 ghost use mathlib.Core.Path.{_≡_};
 ghost use lib.ListN.{length};
 ghost use Rattle.rules.specs.Limit;
@@ -59,7 +59,7 @@ fn all_trees(links: &[u16], seen: &mut [u8]) -> bool
     true
 }
 
-// Each capability is in the free chain or in one object's tree, once.
+// Each capability is in the free list or in one object's tree, once.
 pub(crate) fn check_caps(links: &[u16]) -> bool
     requires { ⌜ length (now links) ≡ Layout.LINKS ⌝ }
     ensures { λ r. ⌜ Decides (Caps (now (links .entry))) r ⌝ }

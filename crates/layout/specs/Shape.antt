@@ -73,7 +73,7 @@ pub record HasTree (master owner above first next back : ℕ → ℕ) (o : ℕ) 
       × Sound owner above first next back o 0 0 (master o) F
   pub dead : master o ≡ 0 → F ≡ nil
 
--- each of 1 to 512 is in one object's tree or in the free chain, once; a free one has no object
+-- each of 1 to 512 is in one object's tree or in the free list, once; a free one has no object
 pub record CapTrees (master owner above first next back : ℕ → ℕ) (free-head : ℕ) : Type 0 where
   pub tree : ℕ → Forest
   pub free : List ℕ
@@ -88,7 +88,7 @@ pub record HasBlocks (master size first next : ℕ → ℕ) (o : ℕ) (xs : List
   pub live : master o ≢ 0 → Chain Limit.blocks next (first o) xs × (length xs ≡ blocks (size o))
   pub dead : master o ≡ 0 → xs ≡ []
 
--- each of 1 to 512 is in one object's chain or in the free chain, once
+-- each of 1 to 512 is in one object's chain or in the free list, once
 pub record BlockChains (master size first next : ℕ → ℕ) (free-head : ℕ) : Type 0 where
   pub chain : ℕ → List ℕ
   pub free : List ℕ
