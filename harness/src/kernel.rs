@@ -53,7 +53,7 @@ macro_rules! entries {
     };
 }
 
-entries!(store_call, store_step);
+entries!(store_call, store_step_unchecked);
 
 /// The check of a store: whether it is well formed.
 pub fn check(raw: &RawStore) -> bool {
@@ -90,7 +90,7 @@ pub fn fresh(supply: u32, [p1, p2]: [u32; 2], raw: &mut RawStore) -> u32 {
     }
 }
 
-/// The type of `store_call` and `store_step`.
+/// The type of `store_call` and `store_step_unchecked`.
 type Entry = unsafe extern "C" fn(
     *mut u8,
     usize,
@@ -121,7 +121,7 @@ fn enter(
     let (numbers, text) = (&request.numbers, &request.text);
     let mut reply = [0; REPLY];
     // SAFETY: each pointer comes with its slice's length; the slices that are written are lent
-    // for writing, and no two overlap. `store_step` is handed well-formed stores alone.
+    // for writing, and no two overlap. `store_step_unchecked` is handed well-formed stores alone.
     let code = unsafe {
         entry(
             bytes.as_mut_ptr(),
@@ -173,7 +173,7 @@ impl FormedStore {
         buffer: &mut [u8],
         scratch: &mut [u16],
     ) -> [u32; REPLY] {
-        enter(store_step, &mut self.0, request, buffer, scratch)
+        enter(store_step_unchecked, &mut self.0, request, buffer, scratch)
     }
 
     pub fn raw(&self) -> &RawStore {

@@ -44,7 +44,7 @@ enough-of {l} (suc m) f e =
       chain = (f .chain .0, f .chain .1, omega (arith, ltb-false (length (f .chain .0)) (suc m) q));
     }
 
--- the free chain of a shape
+-- the free list of a shape
 pub few-enough : (l : List ℕ) (B : Blocks l) (n : ℕ) → tooFew l n ≡ false → n ≤ length (B .free)
 unfolding tooFew
 few-enough l B zero e = omega arith

@@ -6,6 +6,7 @@ use mathlib.Core.Bool.{Bool, false}
 use mathlib.Core.List.{List}
 use lib.Dec.{eqb}
 use lib.ListN.{length, getD, set}
+use Rattle.rules.specs.Limit as Limit
 use Rattle.layout.specs.Layout as Layout
 use Rattle.layout.specs.Rows.{nextBlockOf}
 use Rattle.layout.specs.Shape.{Chain}
@@ -41,12 +42,12 @@ zeroed (suc n) from b = set (zeroed n from b) (from + n) 0
 
 -- where the bytes of block k start
 abbrev pub dataFrom : ℕ → ℕ
-dataFrom k = Layout.DATA + k * 64
+dataFrom k = Layout.DATA + k * Limit.block
 
 -- the bytes of n blocks from block k on
 unfoldable pub cleared : (ℕ → ℕ) → ℕ → ℕ → List ℕ → List ℕ
 cleared next zero k b = b
-cleared next (suc n) k b = cleared next n (next k) (zeroed 64 (dataFrom k) b)
+cleared next (suc n) k b = cleared next n (next k) (zeroed Limit.block (dataFrom k) b)
 
 abbrev pub clearedBytes : List ℕ → List ℕ → ℕ → List ℕ
 clearedBytes b l n = cleared (nextBlockOf l) n (freeHead l) b
@@ -66,9 +67,9 @@ takenLinks l o (suc m) =
 -- the free blocks are a chain
 pub record FreeChain (l : List ℕ) : Type 0 where
   pub links : length l ≡ Layout.LINKS
-  pub chain : (xs : List ℕ) × Chain 512 (nextBlockOf l) (freeHead l) xs
+  pub chain : (xs : List ℕ) × Chain Limit.blocks (nextBlockOf l) (freeHead l) xs
 
 -- of n blocks or more
 pub record Enough (l : List ℕ) (n : ℕ) : Type 0 where
   pub links : length l ≡ Layout.LINKS
-  pub chain : (xs : List ℕ) × Chain 512 (nextBlockOf l) (freeHead l) xs × (n ≤ length xs)
+  pub chain : (xs : List ℕ) × Chain Limit.blocks (nextBlockOf l) (freeHead l) xs × (n ≤ length xs)

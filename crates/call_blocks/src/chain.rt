@@ -2,6 +2,7 @@
 ghost use Prim.Native.Nat.{_≤_};
 ghost use mathlib.Core.Path.{_≡_};
 ghost use lib.ListN.{length};
+ghost use Rattle.rules.specs.Limit;
 ghost use Rattle.layout.specs.Layout;
 ghost use Rattle.layout.specs.Rows.{nextBlockOf};
 ghost use Rattle.call_blocks.specs.Taking.{freeHead, freeBlock, tooFew, FreeChain};
@@ -18,7 +19,7 @@ pub(crate) fn free_head(links: &[u16]) -> usize
 
 // The block after block k; 0 after 0.
 pub(crate) fn next_block(links: &[u16], k: usize) -> usize
-    requires { ⌜ (length (now links) ≡ Layout.LINKS) × (k ≤ 512) ⌝ }
+    requires { ⌜ (length (now links) ≡ Layout.LINKS) × (k ≤ Limit.blocks) ⌝ }
     ensures { λ r. ⌜ r ≡ nextBlockOf (now (links .entry)) k ⌝ }
 {
     if k == 0 {

@@ -2,20 +2,22 @@
 ghost use Prim.Native.Nat.{_≤_};
 ghost use mathlib.Core.Path.{_≡_};
 ghost use lib.ListN.{length};
+ghost use Rattle.rules.specs.Limit;
 ghost use Rattle.layout.specs.Layout;
 ghost use Rattle.call_blocks.specs.Taking.{zeroed, dataFrom, clearedBytes, lastFree, Enough};
 use crate::chain::free_head;
 use crate::chain::next_block;
 use layout::DATA;
+use values::limit::BLOCK_SIZE;
 
 // The bytes of block k.
 fn clear_block(bytes: &mut [u8], k: usize)
-    requires { ⌜ (length (now bytes) ≡ Layout.BYTES) × (k ≤ 512) ⌝ }
-    ensures { λ _. ⌜ now (bytes .exit) ≡ zeroed 64 (dataFrom k) (now (bytes .entry)) ⌝ }
+    requires { ⌜ (length (now bytes) ≡ Layout.BYTES) × (k ≤ Limit.blocks) ⌝ }
+    ensures { λ _. ⌜ now (bytes .exit) ≡ zeroed Limit.block (dataFrom k) (now (bytes .entry)) ⌝ }
 {
     let mut i: usize = 0;
-    while i < 64 {
-        bytes[DATA + k * 64 + i] = 0;
+    while i < BLOCK_SIZE {
+        bytes[DATA + k * BLOCK_SIZE + i] = 0;
         i += 1;
     }
 }

@@ -17,7 +17,7 @@ use Rattle.call_steps.specs.Run.{over}
 use Rattle.call_prune.specs.Links.{prunedLinks, deletedLinks, Living, Child}
 use Rattle.call_prune.proofs.Pruning.{Pruning}
 use Rattle.call_prune.proofs.Measuring.{pruned}
-use Rattle.call_ending.specs.Ended.{EndAsks, Ends, Last}
+use Rattle.call_ending.specs.Ended.{EndAsks, EndsObject, Last}
 use Rattle.call_ending.proofs.Money.{forfeit-fits}
 use Rattle.call_ending.proofs.Requires.{end-asks}
 use Rattle.call_delete.specs.Runs.{masterLinks, masterWords, deleteRun, DeleteAsks, MasterAsks, MasterEnds}
@@ -77,6 +77,6 @@ module _ {b l w : List ℕ} {k o : ℕ} (a : MasterAsks b l w k) (e : o ≡ getD
   pub end-of : {l₁ : List ℕ} → l₁ ≡ prunedLinks l k → EndAsks b l₁ w o k
   end-of q = rw (q, ← owner-is) (master-asks (a .asks) (a .top))
 
-  pub ends-master : {l₁ l′ w′ : List ℕ} → l₁ ≡ prunedLinks l k → Ends b l₁ w o k l′ w′ → MasterEnds b l w k l′ w′
+  pub ends-master : {l₁ l′ w′ : List ℕ} → l₁ ≡ prunedLinks l k → EndsObject b l₁ w o k l′ w′ → MasterEnds b l w k l′ w′
   unfolding masterLinks masterWords
   ends-master q E = record { links = rw (owner-is, ← q) (E .links); words = rw owner-is (E .words) }

@@ -6,6 +6,8 @@ use mathlib.Core.Bool.{true, false}
 use mathlib.Core.List.{List}
 use lib.Dec.{eqb}
 use lib.ListN.{length, replicate}
+use Rattle.rules.specs.Code as Code
+use Rattle.rules.specs.Limit as Limit
 use Rattle.rules.specs.Store.{moneyIn}
 use Rattle.layout.specs.Rows.{ownerOf, parentOf}
 use Rattle.layout.specs.View.{view}
@@ -25,8 +27,8 @@ masterWords b l w k = endedWords b w (ownerOf l k) k
 
 unfoldable pub deleteRun : List ℕ → List ℕ → List ℕ → ℕ → Ran
 deleteRun b l w k = elim (eqb (parentOf l k) 0) [
-  | true ↦ over 0 b (masterLinks l k) (masterWords b l w k)
-  | false ↦ over 0 b (deletedLinks l k) w
+  | true ↦ over Code.done b (masterLinks l k) (masterWords b l w k)
+  | false ↦ over Code.done b (deletedLinks l k) w
 ]
 
 -- ---- what the code asks, and leaves
@@ -37,7 +39,7 @@ pub record DeleteAsks (b l w : List ℕ) (k : ℕ) : Type 0 where
   pub shape : Shape l
   pub held : Held l k
   -- the house has room for the forfeit
-  pub total : moneyIn (view b l w) ≤ 4294967295
+  pub total : moneyIn (view b l w) ≤ Limit.word
 
 -- of a master
 pub record MasterAsks (b l w : List ℕ) (k : ℕ) : Type 0 where

@@ -5,9 +5,10 @@ use call_ending::end::end_object;
 use call_prune::below::prune_below;
 use call_prune::delete::delete_child;
 use call_prune::scratch::clear;
-use call_steps::widen::slot;
 use layout::OWNER;
 use layout::PARENT;
+use layout::slot;
+use values::code::DONE;
 
 // Of a master, in slot k: all below it end, then its object and it.
 fn delete_master(bytes: &[u8], links: &mut [u16], words: &mut [u32], k: usize)
@@ -35,8 +36,8 @@ pub fn delete_cap(
     clear(scratch);
     if links[PARENT + k] == 0 {
         delete_master(bytes, links, words, k);
-        return 0;
+        return DONE;
     }
     delete_child(links, k);
-    0
+    DONE
 }

@@ -14,7 +14,7 @@ use Rattle.rules.proofs.Tests.{by-eq}
 use Rattle.layout.specs.Rows.{ownerOf, parentOf, firstChildOf, nextCapOf, prevCapOf}
 use Rattle.layout.specs.Shape.{Forest, nil, node, count, Agree, Sound, SoundIn}
 use Rattle.layout.proofs.Counts.{one-same, one-other}
-use Rattle.layout.proofs.Linking.{sound-low, sound-frame}
+use Rattle.layout.proofs.Linking.{apart-in, sound-low, sound-frame}
 
 -- n, with no children, in front of the children of x
 unfoldable pub grown : ℕ → ℕ → Forest → Forest
@@ -65,10 +65,6 @@ grown-count x n k (node j K R) z =
         (omega (arith, grown-none x n k K zK, in-R (omega (arith, one-other x j (λ e. ne (sym e))))))
     go (no ne) (no nK) in-K in-R =
         rw (grown-no x n j K R ne) (omega (arith, in-K (omega arith), grown-none x n k R (omega arith)))
-
--- a record of F is no record that stands not in F
-pub apart : (k n : ℕ) (F : Forest) → 1 ≤ count k F → count n F ≡ 0 → k ≢ n
-apart k n F h z e = omega (arith, ap (λ i. count i F) e)
 
 -- ---- the children of a record
 
@@ -127,13 +123,13 @@ module _ (l m : List ℕ) (o x n f : ℕ) (low : 1 ≤ n) (high : n ≤ 512) (J 
       → SoundIn m o′ p q h F
   untouched o′ p q h F s zn zx zf = sound-frame (ownerOf l) (parentOf l) (firstChildOf l) (nextCapOf l) (prevCapOf l)
       (ownerOf m) (parentOf m) (firstChildOf m) (nextCapOf m) (prevCapOf m) o′ p q h F s (λ k c. record {
-        owner-same = J .owner-kept k (apart k n F c zn);
-        above-same = J .parent-kept k (apart k n F c zn);
-        first-same = J .first-kept k (apart k n F c zn) (apart k x F c zx);
-        next-same = J .next-kept k (apart k n F c zn);
+        owner-same = J .owner-kept k (apart-in k n F c zn);
+        above-same = J .parent-kept k (apart-in k n F c zn);
+        first-same = J .first-kept k (apart-in k n F c zn) (apart-in k x F c zx);
+        next-same = J .next-kept k (apart-in k n F c zn);
         back-same = J .prev-kept k
             (sound-low (ownerOf l) (parentOf l) (firstChildOf l) (nextCapOf l) (prevCapOf l) o′ p q h F k s c)
-            (apart k n F c zn) (apart k f F c zf);
+            (apart-in k n F c zn) (apart-in k f F c zf);
       })
 
   -- the children of x now come after n
@@ -143,8 +139,8 @@ module _ (l m : List ℕ) (o x n f : ℕ) (low : 1 ≤ n) (high : n ≤ 512) (J 
   moved nil s zn zx d = s
   moved (node j K R) s zn zx d =
       let e : f ≡ j = s .0 in
-      let jn : j ≢ n = apart j n (node j K R) (omega (arith, one-same j)) zn in
-      let jx : j ≢ x = apart j x (node j K R) (omega (arith, one-same j)) zx in
+      let jn : j ≢ n = apart-in j n (node j K R) (omega (arith, one-same j)) zn in
+      let jx : j ≢ x = apart-in j x (node j K R) (omega (arith, one-same j)) zx in
       let zK : count f K ≡ 0 = rw e (omega (arith, d j, one-same j)) in
       let zR : count f R ≡ 0 = rw e (omega (arith, d j, one-same j)) in
       let prev : prevCapOf m j ≡ n = rw e at (J .head-prev (omega (arith, s .1 .low))) in (
@@ -182,7 +178,7 @@ module _ (l m : List ℕ) (o x n f : ℕ) (low : 1 ≤ n) (high : n ≤ 512) (J 
       (grown-sound p j (nextCapOf l j) R fe fp px (s .3) (omega arith) (λ k. omega (arith, d k)))
     where
       jn : j ≢ n
-      jn = apart j n (node j K R) (omega (arith, one-same j)) zn
+      jn = apart-in j n (node j K R) (omega (arith, one-same j)) zn
 
       jf : j ≢ f
       jf e = px (sym (s .1 .parent-is) ∙ ap (λ i. parentOf l i) e ∙ fp (omega (arith, s .1 .low, e)))

@@ -1,4 +1,4 @@
--- The shape of the links with the child linked: its object's tree has one record more, the free chain one less.
+-- The shape of the links with the child linked: its object's tree has one record more, the free list one less.
 use Prim.Native.Nat.{ℕ, _+_, _≤_}
 use mathlib.Core.Path.{_≡_, refl, sym, ap, _∙_, subst}
 use mathlib.Core.Logic.{_≢_, _⊎_, ⊎-elim}
@@ -12,7 +12,7 @@ use Rattle.rules.proofs.Slots.{at-here, at-else}
 use Rattle.layout.specs.Layout as Layout
 use Rattle.layout.specs.Rows.{masterOf, ownerOf, parentOf, firstChildOf, nextCapOf}
 use Rattle.layout.specs.Shape.{Forest, nil, node, count, times, SoundIn, TreeOf, Caps, Shape}
-use Rattle.layout.proofs.Linking.{sum-put}
+use Rattle.layout.proofs.Linking.{sum-put, apart-in}
 use Rattle.layout.proofs.Shaped.{CapShaped, of-tree, shaped}
 use Rattle.layout.proofs.Standing.{stands, stands-once, stands-only}
 use Rattle.layout.proofs.FreeCaps.{FirstFree, first-free, rest-owner, rest-other, rest-chain}
@@ -20,7 +20,7 @@ use Rattle.layout.proofs.Kept.{objects-kept, blocks-kept}
 use Rattle.call_grow.specs.Made.{freeCap, newLinks}
 use Rattle.call_grow.proofs.Making.{MadeLinks, made-links}
 use Rattle.call_derive.specs.Runs.{derivedLinks}
-use Rattle.call_derive.proofs.Grafting.{grown, grown-root, grown-count, apart, first-in, Joined, untouched, grown-sound}
+use Rattle.call_derive.proofs.Grafting.{grown, grown-root, grown-count, first-in, Joined, untouched, grown-sound}
 use Rattle.call_derive.proofs.Linked.{Relinked, derived-relinked, derived-joined}
 
 -- ---- a living capability k in the tree of its object
@@ -51,7 +51,7 @@ module _ (l : List ℕ) (c : Caps l) (k : ℕ) (alive : ownerOf l k ≢ 0) (S : 
 
   child-not-new : (i : ℕ) → 1 ≤ i → count i (c .tree o) ≡ 0 → f ≢ i
   child-not-new i low z e =
-      ⊎-elim (λ q. omega (arith, q, e, low)) (λ t. apart f i (c .tree o) (t .0) z e) first-child
+      ⊎-elim (λ q. omega (arith, q, e, low)) (λ t. apart-in f i (c .tree o) (t .0) z e) first-child
 
   -- the first child stands in no other tree
   child-elsewhere : (p : ℕ) → 1 ≤ p → p ≤ 64 → p ≢ o → count f (c .tree p) ≡ 0

@@ -6,6 +6,8 @@ use mathlib.Core.Logic.{_≢_}
 use mathlib.Core.List.{List, [], _∷_}
 use lib.Dec.{eqb}
 use lib.ListN.{length, set}
+use Rattle.rules.specs.Limit as Limit
+use Rattle.rules.specs.Code as Code
 use Rattle.rules.specs.Slots.{some}
 use Rattle.rules.specs.Store.{Password, Window, Cap}
 use Rattle.rules.specs.Rights.{both}
@@ -37,7 +39,7 @@ pub record ChildAsks (l w : List ℕ) (k rights : ℕ) : Type 0 where
   pub links : length l ≡ Layout.LINKS
   pub words : length w ≡ Layout.WORDS
   pub slot : CapSlot k
-  pub rights-fit : rights ≤ 8191
+  pub rights-fit : rights ≤ Limit.rights
 
 -- r is that child, to be put before the first one
 pub record IsChild (l w : List ℕ) (k rights : ℕ) (range : Window) (drawn : Password) (r : NewCap) : Type 0 where
@@ -55,10 +57,10 @@ pub record AddAsks (l w : List ℕ) (k next : ℕ) : Type 0 where
   pub links : length l ≡ Layout.LINKS
   pub words : length w ≡ Layout.WORDS
   pub slot : CapSlot k
-  pub next-high : next ≤ 512
+  pub next-high : next ≤ Limit.caps
   -- there is a free record
   pub low : 1 ≤ freeCap l
-  pub high : freeCap l ≤ 512
+  pub high : freeCap l ≤ Limit.caps
 
 -- l′ and w′ are what is left of the slices l and w; the child has the parent's moneyword
 pub record Adds (l w : List ℕ) (k : ℕ) (x : Cap) (next : ℕ) (l′ w′ : List ℕ) : Type 0 where
@@ -69,8 +71,8 @@ pub record Adds (l w : List ℕ) (k : ℕ) (x : Cap) (next : ℕ) (l′ w′ : L
 
 unfoldable pub deriveStop : List ℕ → List ℕ → List ℕ → ℕ → ℕ → ℕ
 deriveStop b l w k p1 = first
-    (12 when some 512 (taken (view b l w) (ownerOf l k) p1)
-    ∷ 13 when eqb (freeCap l) 0
+    (Code.taken when some Limit.caps (taken (view b l w) (ownerOf l k) p1)
+    ∷ Code.noSpace when eqb (freeCap l) 0
     ∷ [])
 
 -- the child made, and handed back as drawn
@@ -93,6 +95,6 @@ pub record DeriveAsks (b l w : List ℕ) (k rights : ℕ) : Type 0 where
   -- the object that the capability is for lives
   pub object : ObjectSlot (ownerOf l k)
   pub live : masterOf l (ownerOf l k) ≢ 0
-  pub child-high : firstChildOf l k ≤ 512
-  pub free-high : freeCap l ≤ 512
-  pub rights-fit : rights ≤ 8191
+  pub child-high : firstChildOf l k ≤ Limit.caps
+  pub free-high : freeCap l ≤ Limit.caps
+  pub rights-fit : rights ≤ Limit.rights

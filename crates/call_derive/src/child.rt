@@ -5,7 +5,6 @@ ghost use Rattle.call_grow.specs.Made.{capOf};
 ghost use Rattle.call_derive.specs.Runs.{ChildAsks, IsChild, AddAsks, Adds};
 use call_grow::cap::NewCap;
 use call_grow::cap::new_cap;
-use call_steps::widen::slot;
 use layout::END;
 use layout::FIRST_CHILD;
 use layout::MONEY;
@@ -13,13 +12,14 @@ use layout::OWNER;
 use layout::PREV_CAP;
 use layout::RIGHTS;
 use layout::START;
+use layout::slot;
 use values::moneyword::Moneyword;
 use values::rights::Rights;
 use values::window::Window;
 
 // The child of the capability in slot k with these rights, this range and this password; its next sibling is to be the
 // first child.
-pub fn child_of(
+pub(crate) fn child_of(
     links: &[u16],
     words: &[u32],
     k: usize,
@@ -47,7 +47,7 @@ pub fn child_of(
 }
 
 // The record x is made, with the moneyword of the capability in slot k, and becomes its first child.
-pub fn add_child(links: &mut [u16], words: &mut [u32], k: usize, x: NewCap)
+pub(crate) fn add_child(links: &mut [u16], words: &mut [u32], k: usize, x: NewCap)
     requires { ⌜ AddAsks (now links) (now words) k (x .next) ⌝ }
     ensures { λ _. ⌜ Adds (now (links .entry)) (now (words .entry)) k (capOf x) (x .next) (now (links .exit))
         (now (words .exit)) ⌝ }

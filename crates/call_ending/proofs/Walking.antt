@@ -25,7 +25,7 @@ use Rattle.call_transfer.proofs.Hops.{hop-block}
 use Rattle.call_ending.specs.Forfeit.{sumsFrom, holdings, forfeited, endedWords, HoldsAsk, ForfeitAsks, SumsAsk}
 use Rattle.call_ending.specs.Links.{instead, lastBlock, givenBlocks, isBefore, before, unlinked}
 use Rattle.call_ending.specs.Links.{freedObject, freedCap, endedLinks, BlocksAsk, ObjectAsks}
-use Rattle.call_ending.specs.Ended.{Ends}
+use Rattle.call_ending.specs.Ended.{EndsObject}
 use Rattle.layout.proofs.Joining.{head-none}
 
 -- ---- sums
@@ -185,6 +185,6 @@ unlinked-is {l} {o} a e h = rw (e, h, field-in 64 Layout.«NEXT_OBJECT» l o (a 
 -- ---- the whole
 
 pub ended-is : {b l w l₁ l₂ l₃ l₄ w₁ : List ℕ} {o m : ℕ} → w₁ ≡ endedWords b w o m → l₁ ≡ givenBlocks l o
-    → l₂ ≡ unlinked l₁ o → l₃ ≡ freedObject l₂ o → l₄ ≡ freedCap l₃ m → Ends b l w o m l₄ w₁
+    → l₂ ≡ unlinked l₁ o → l₃ ≡ freedObject l₂ o → l₄ ≡ freedCap l₃ m → EndsObject b l w o m l₄ w₁
 unfolding endedLinks
 ended-is x p q r s = record { links = rw (s, r, q, p); words = x }

@@ -14,7 +14,7 @@ pub record EndAsks (b l w : List ℕ) (o m : ℕ) : Type 0 where
   pub blocks : BlocksAsk l o
 
 -- that is what l′ and w′ are
-pub record Ends (b l w : List ℕ) (o m : ℕ) (l′ w′ : List ℕ) : Type 0 where
+pub record EndsObject (b l w : List ℕ) (o m : ℕ) (l′ w′ : List ℕ) : Type 0 where
   pub links : l′ ≡ endedLinks l o m
   pub words : w′ ≡ endedWords b w o m
 

@@ -5,6 +5,7 @@ use mathlib.Core.Logic.{_≢_}
 use mathlib.Core.Bool.{true, false}
 use mathlib.Core.List.{List}
 use lib.ListN.{length, getD, set}
+use Rattle.rules.specs.Limit as Limit
 use Rattle.layout.specs.Layout as Layout
 use Rattle.layout.specs.Rows.{flagOf, countOf, cashOf, sumOf, moneyOf}
 use Rattle.layout.specs.View.{isSet}
@@ -18,7 +19,7 @@ sumsFrom w (suc n) i = sumOf w i + sumsFrom w n (suc i)
 -- cash and box sums of the object in slot o; a data object has none
 unfoldable pub holdings : List ℕ → List ℕ → ℕ → ℕ
 holdings b w o = elim (isSet (flagOf b o)) [
-  | true ↦ cashOf w o + sumsFrom w (countOf b o) (o * 4)
+  | true ↦ cashOf w o + sumsFrom w (countOf b o) (o * Limit.box)
   | false ↦ 0
 ]
 
@@ -36,21 +37,21 @@ pub record SumsAsk (w : List ℕ) (n i : ℕ) : Type 0 where
   pub words : length w ≡ Layout.WORDS
   pub low : 1 ≤ i
   pub high : i + n ≤ 260
-  pub fits : sumsFrom w n i ≤ 4294967295
+  pub fits : sumsFrom w n i ≤ Limit.word
 
 pub record HoldsAsk (b w : List ℕ) (o : ℕ) : Type 0 where
   pub bytes : length b ≡ Layout.BYTES
   pub words : length w ≡ Layout.WORDS
   pub slot : ObjectSlot o
   -- a box has at most 4 messages
-  pub count : flagOf b o ≢ 0 → countOf b o ≤ 4
-  pub fits : holdings b w o ≤ 4294967295
+  pub count : flagOf b o ≢ 0 → countOf b o ≤ Limit.box
+  pub fits : holdings b w o ≤ Limit.word
 
 pub record ForfeitAsks (b w : List ℕ) (o m : ℕ) : Type 0 where
   pub bytes : length b ≡ Layout.BYTES
   pub words : length w ≡ Layout.WORDS
   pub slot : ObjectSlot o
   pub cap : CapSlot m
-  pub count : flagOf b o ≢ 0 → countOf b o ≤ 4
+  pub count : flagOf b o ≢ 0 → countOf b o ≤ Limit.box
   -- the house has room for it
-  pub fits : getD w Layout.HOUSE 0 + forfeited b w o m ≤ 4294967295
+  pub fits : getD w Layout.HOUSE 0 + forfeited b w o m ≤ Limit.word

@@ -6,6 +6,7 @@ use mathlib.Core.Bool.{Bool, true, false}
 use mathlib.Core.List.{List}
 use lib.Dec.{eqb}
 use lib.ListN.{length, getD, set}
+use Rattle.rules.specs.Limit as Limit
 use Rattle.rules.specs.Slots.{find}
 use Rattle.rules.specs.Store.{blocks}
 use Rattle.layout.specs.Layout as Layout
@@ -38,7 +39,7 @@ isBefore l o i = eqb (nextObjectOf l i) o
 
 -- the object before that in slot o, 0 if it is the first
 unfoldable pub before : List ℕ → ℕ → ℕ
-before l o = find 64 (isBefore l o)
+before l o = find Limit.objects (isBefore l o)
 
 -- o out of the chain of objects
 unfoldable pub unlinked : List ℕ → ℕ → List ℕ
@@ -71,7 +72,7 @@ endedLinks l o m = freedCap (freedObject (unlinked (givenBlocks l o) o) o) m
 pub record BlocksAsk (l : List ℕ) (o : ℕ) : Type 0 where
   pub links : length l ≡ Layout.LINKS
   pub slot : ObjectSlot o
-  pub chain : (xs : List ℕ) × Chain 512 (nextBlockOf l) (firstBlockOf l o) xs × (length xs ≡ blocks (sizeOf l o))
+  pub chain : (xs : List ℕ) × Chain Limit.blocks (nextBlockOf l) (firstBlockOf l o) xs × (length xs ≡ blocks (sizeOf l o))
 
 pub record ObjectAsks (l : List ℕ) (o : ℕ) : Type 0 where
   pub links : length l ≡ Layout.LINKS

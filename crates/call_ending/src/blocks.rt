@@ -1,17 +1,17 @@
 // The blocks of an object, given back: its chain stands in front of the free blocks.
 ghost use mathlib.Core.Path.{_≡_};
 ghost use Rattle.call_ending.specs.Links.{instead, lastBlock, givenBlocks, BlocksAsk};
-use call_steps::widen::slot;
 use call_steps::widen::wide16;
 use call_transfer::chain::block_at;
 use layout::FIRST_BLOCK;
 use layout::FREE_BLOCKS;
 use layout::NEXT_BLOCK;
 use layout::SIZE;
+use layout::slot;
 use values::blocks::blocks_of;
 
 // x, but z where x is y.
-pub fn instead(x: u16, y: u16, z: u16) -> u16
+pub(crate) fn instead(x: u16, y: u16, z: u16) -> u16
     ensures { λ r. ⌜ r ≡ instead x y z ⌝ }
 {
     if x == y {
@@ -34,7 +34,7 @@ fn last_block(links: &[u16], o: usize) -> usize
 }
 
 // The last one is linked to the free ones, and the first is the head.
-pub fn give_blocks(links: &mut [u16], o: usize)
+pub(crate) fn give_blocks(links: &mut [u16], o: usize)
     requires { ⌜ BlocksAsk (now links) o ⌝ }
     ensures { λ _. ⌜ now (links .exit) ≡ givenBlocks (now (links .entry)) o ⌝ }
 {

@@ -1,5 +1,5 @@
 // An object ends.
-ghost use Rattle.call_ending.specs.Ended.{EndAsks, Ends};
+ghost use Rattle.call_ending.specs.Ended.{EndAsks, EndsObject};
 use crate::blocks::give_blocks;
 use crate::forfeit::to_house;
 use crate::free::free_cap;
@@ -9,7 +9,7 @@ use crate::object::unlink;
 // The object in slot o, with its master m: its money goes to the house, and its blocks and records are free.
 pub fn end_object(bytes: &[u8], links: &mut [u16], words: &mut [u32], o: usize, m: usize)
     requires { ⌜ EndAsks (now bytes) (now links) (now words) o m ⌝ }
-    ensures { λ _. ⌜ Ends (now (bytes .entry)) (now (links .entry)) (now (words .entry)) o m
+    ensures { λ _. ⌜ EndsObject (now (bytes .entry)) (now (links .entry)) (now (words .entry)) o m
         (now (links .exit)) (now (words .exit)) ⌝ }
 {
     to_house(bytes, words, o, m);

@@ -8,6 +8,7 @@ use layout::HOUSE;
 use layout::MONEY;
 use layout::SUM;
 use values::cash::Cash;
+use values::limit::BOX_SLOTS;
 use values::moneyword::Moneyword;
 
 // The sums of n messages from slot i on.
@@ -34,7 +35,7 @@ fn holdings(bytes: &[u8], words: &[u32], o: usize) -> Cash
     if bytes[FLAG + o] == 0 {
         return Cash(0);
     }
-    let sums = sums_from(words, bytes[COUNT + o] as usize, o * 4);
+    let sums = sums_from(words, bytes[COUNT + o] as usize, o * BOX_SLOTS);
     Cash(words[CASH + o] + sums)
 }
 
@@ -49,7 +50,7 @@ fn forfeit(bytes: &[u8], words: &[u32], o: usize, m: usize) -> Cash
 }
 
 // All that goes to the house.
-pub fn to_house(bytes: &[u8], words: &mut [u32], o: usize, m: usize)
+pub(crate) fn to_house(bytes: &[u8], words: &mut [u32], o: usize, m: usize)
     requires { ⌜ ForfeitAsks (now bytes) (now words) o m ⌝ }
     ensures { λ _. ⌜ now (words .exit) ≡ endedWords (now (bytes .entry)) (now (words .entry)) o m ⌝ }
 {

@@ -9,7 +9,7 @@ use layout::NEXT_OBJECT;
 use layout::OWNER;
 
 // The object in slot o, which has no master then.
-pub fn free_object(links: &mut [u16], o: usize)
+pub(crate) fn free_object(links: &mut [u16], o: usize)
     requires { ⌜ ObjectAsks (now links) o ⌝ }
     ensures { λ _. ⌜ now (links .exit) ≡ freedObject (now (links .entry)) o ⌝ }
 {
@@ -20,7 +20,7 @@ pub fn free_object(links: &mut [u16], o: usize)
 }
 
 // The capability in slot m, which is of no object then.
-pub fn free_cap(links: &mut [u16], m: usize)
+pub(crate) fn free_cap(links: &mut [u16], m: usize)
     requires { ⌜ CapAsks (now links) m ⌝ }
     ensures { λ _. ⌜ now (links .exit) ≡ freedCap (now (links .entry)) m ⌝ }
 {

@@ -28,7 +28,7 @@ one-slot {f} {g} {i} {v} e = record {
 
 -- ---- the links
 
--- l′ is l with the record x in slot i, out of the free chain
+-- l′ is l with the record x in slot i, out of the free list
 pub record MadeLinks (l l′ : List ℕ) (i : ℕ) (x : Cap) (next : ℕ) : Type 0 where
   pub long : length l′ ≡ length l
   pub master-same : masterOf l′ ≡ masterOf l

@@ -3,6 +3,7 @@ use Prim.Native.Nat.{ℕ, _+_, _≤_}
 use mathlib.Core.Path.{_≡_}
 use mathlib.Core.List.{List}
 use lib.ListN.{length, getD, set}
+use Rattle.rules.specs.Limit as Limit
 use Rattle.rules.specs.Store.{Cap}
 use Rattle.values.specs.Words.{passwordOf, windowOf}
 use Rattle.layout.specs.Layout as Layout
@@ -44,9 +45,9 @@ pub record MakeAsks (l w : List ℕ) : Type 0 where
   pub links : length l ≡ Layout.LINKS
   pub words : length w ≡ Layout.WORDS
   pub low : 1 ≤ freeCap l
-  pub high : freeCap l ≤ 512
+  pub high : freeCap l ≤ Limit.caps
 
--- r is the slot that was first in the free chain; l′ and w′ are what is left of the slices l and w
+-- r is the slot that was first in the free list; l′ and w′ are what is left of the slices l and w
 pub record Makes (l w : List ℕ) (x : Cap) (next moneyword r : ℕ) (l′ w′ : List ℕ) : Type 0 where
   pub slot : r ≡ freeCap l
   pub links : l′ ≡ newLinks l (freeCap l) x next

@@ -1,10 +1,9 @@
-// "Making a capability record is one function that is given its moneyword."
+// A capability record is made by one function, which is given its moneyword.
 ghost use mathlib.Core.Path.{_≡_};
 ghost use lib.ListN.{length};
 ghost use Rattle.layout.specs.Layout as Layout;
 ghost use Rattle.call_steps.specs.Tests.{CapSlot};
 ghost use Rattle.call_grow.specs.Made.{capOf, newLinks, newWords, MakeAsks, Makes};
-use call_steps::widen::slot;
 use layout::END;
 use layout::FIRST_CHILD;
 use layout::FREE_CAPS;
@@ -17,6 +16,7 @@ use layout::PARENT;
 use layout::PREV_CAP;
 use layout::RIGHTS;
 use layout::START;
+use layout::slot;
 use values::moneyword::Moneyword;
 use values::rights::Rights;
 use values::window::Window;
@@ -59,7 +59,7 @@ fn write_words(words: &mut [u32], i: usize, x: NewCap, moneyword: Moneyword)
     words[MONEY + i] = moneyword.0;
 }
 
-// The first record of the free chain leaves it and is written whole; its slot.
+// The first record of the free list leaves it and is written whole; its slot.
 pub fn new_cap(links: &mut [u16], words: &mut [u32], x: NewCap, moneyword: Moneyword) -> usize
     requires { ⌜ MakeAsks (now links) (now words) ⌝ }
     ensures { λ r. ⌜ Makes (now (links .entry)) (now (words .entry)) (capOf x) (x .next) (moneyword .0) r

@@ -1,3 +1,3 @@
-// A capability record made: it is taken from the free chain and written whole. derive_cap, make_obj and rename_obj link
-// it where it belongs.
+// A capability record made: it is taken from the free list and written whole. make_obj and derive_cap link it where it
+// belongs.
 pub mod cap;

@@ -18,7 +18,7 @@ use Rattle.layout.specs.View.{view}
 use Rattle.layout.specs.Shape.{Shape}
 use Rattle.layout.specs.WellFormed.{Sized, Cells, WellFormed}
 use Rattle.layout.proofs.Shown.{cap-shown}
-use Rattle.call_prune.specs.Links.{prunedLinks, deletedLinks, Placed, Child}
+use Rattle.call_prune.specs.Links.{prunedLinks, deletedLinks, NamesSlots, Child}
 use Rattle.call_prune.proofs.Dropping.{SameRows, rows-then, dropped-rows, dropped-owners}
 use Rattle.call_prune.proofs.Shapes.{dropped-shape}
 use Rattle.call_prune.proofs.Pruning.{Pruning}
@@ -35,7 +35,7 @@ module _ {l : List ℕ} {k : ℕ} (C : Child l k) where
   abbrev T : Pruning l k l₁ 0
   T = pruned (C .living)
 
-  abbrev P : Placed l₁ k
+  abbrev P : NamesSlots l₁ k
   P = pruned-placed (C .living)
 
   has-parent : parentOf l₁ k ≢ 0

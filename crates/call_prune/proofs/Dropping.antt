@@ -13,7 +13,7 @@ use Rattle.layout.specs.Layout as Layout
 use Rattle.layout.specs.Rows.{masterOf, serialOf, sizeOf, firstBlockOf, nextObjectOf, nextBlockOf}
 use Rattle.layout.specs.Rows.{ownerOf, parentOf, firstChildOf, nextCapOf, prevCapOf, rightsOf}
 use Rattle.layout.proofs.Puts.{Put, put, puts, Within, length-puts, field-puts, field-puts-at, head-puts, field-kept}
-use Rattle.call_prune.specs.Links.{namedAt, droppedLinks, Placed}
+use Rattle.call_prune.specs.Links.{namedAt, droppedLinks, NamesSlots}
 use Rattle.call_prune.proofs.Stores.{named-first, named-next}
 use Rattle.call_prune.proofs.Removing.{Unlinks}
 
@@ -78,7 +78,7 @@ drops n off i q s j free =
     ∷ put n off i s
     ∷ []
 
-module _ {l : List ℕ} {j : ℕ} (P : Placed l j) (child : parentOf l j ≢ 0) where
+module _ {l : List ℕ} {j : ℕ} (P : NamesSlots l j) (child : parentOf l j ≢ 0) where
   abbrev p : ℕ
   p = parentOf l j
 

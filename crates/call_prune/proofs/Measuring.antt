@@ -20,7 +20,7 @@ use Rattle.layout.specs.Shape.{Shape}
 use Rattle.layout.proofs.Field.{field-low, field-high}
 use Rattle.layout.proofs.Shaped.{shaped}
 use Rattle.layout.proofs.Shown.{set-yes}
-use Rattle.call_prune.specs.Links.{droppedLinks, turnedLinks, turnedSlot, prunedFrom, prunedLinks, Placed, Living}
+use Rattle.call_prune.specs.Links.{droppedLinks, turnedLinks, turnedSlot, prunedFrom, prunedLinks, NamesSlots, Living}
 use Rattle.call_prune.proofs.Shapes.{placed}
 use Rattle.call_prune.proofs.Dropping.{dropped-rows, dropped-owners}
 use Rattle.call_prune.proofs.Pruning.{Pruning, pruning-start, turn-placed, turn-by, child-parent, child-live, has-parent}
@@ -202,7 +202,7 @@ unfolding prunedLinks
 pruned {l} {k} L = pruned-from 2048 (L .links) (pruning-start L) (left-high l k)
 
 -- k is left in its place
-pub pruned-placed : {l : List ℕ} {k : ℕ} → Living l k → Placed (prunedLinks l k) k
+pub pruned-placed : {l : List ℕ} {k : ℕ} → Living l k → NamesSlots (prunedLinks l k) k
 pruned-placed {l} {k} L =
     let T = pruned L in
     placed (prunedLinks l k) (T .rows .sized ∙ L .links) (T .shape .caps) k (T .live)

@@ -15,7 +15,7 @@ use Rattle.layout.specs.Rows.{ownerOf, parentOf, firstChildOf}
 use Rattle.layout.specs.Shape.{Shape}
 use Rattle.layout.proofs.Field.{field-low}
 use Rattle.layout.proofs.Shaped.{shaped}
-use Rattle.call_prune.specs.Links.{droppedLinks, turnedLinks, turnedSlot, Placed, Living}
+use Rattle.call_prune.specs.Links.{droppedLinks, turnedLinks, turnedSlot, NamesSlots, Living}
 use Rattle.call_prune.proofs.Stores.{down-links, down-slot, over-links, over-slot, up-links, up-slot}
 use Rattle.call_prune.proofs.Dropping.{SameRows, rows-same, rows-then, dropped-rows, dropped-owners}
 use Rattle.call_prune.proofs.Shapes.{In, in-tree, placed, dropped-shape}
@@ -94,7 +94,7 @@ module _ {l₀ : List ℕ} {k : ℕ} (size : length l₀ ≡ Layout.LINKS) {l : 
   alive : ownerOf l j ≢ 0
   alive = T .turn-live some
 
-  pub turn-placed : Placed l j
+  pub turn-placed : NamesSlots l j
   turn-placed = placed l sized (T .shape .caps) j alive
 
   abbrev I : In l (T .shape .caps .tree) j

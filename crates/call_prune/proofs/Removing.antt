@@ -10,7 +10,7 @@ use borrow.Author.Tests.{eq-eqb, ne-eqb}
 use Rattle.rules.specs.Slots.{one}
 use Rattle.layout.specs.Shape.{Forest, nil, node, count, Sound}
 use Rattle.layout.proofs.Counts.{one-same, one-other}
-use Rattle.layout.proofs.Linking.{sound-low, sound-frame}
+use Rattle.layout.proofs.Linking.{apart-in, sound-low, sound-frame}
 
 -- ---- the forest without n
 
@@ -25,10 +25,6 @@ without-here n j K R e = rw (eq-eqb j n e, without)
 pub without-else : (n j : ℕ) (K R : Forest) → j ≢ n → without n (node j K R) ≡ node j (without n K) (without n R)
 unfolding without
 without-else n j K R ne = rw (ne-eqb j n ne, without)
-
--- a record does not stand in a forest in which another one's count is 0
-apart : (k n : ℕ) (F : Forest) → 1 ≤ count k F → count n F ≡ 0 → k ≢ n
-apart k n F c z e = omega (arith, c, z, ap (λ i. count i F) e)
 
 -- where n does not stand nothing is taken out
 pub without-none : (n : ℕ) (F : Forest) → count n F ≡ 0 → without n F ≡ F
@@ -76,11 +72,11 @@ module _ (owner above first next back owner′ above′ first′ next′ back′
       → count n F ≡ 0 → count p F ≡ 0 → count q F ≡ 0 → count s F ≡ 0 → Is a b h F
   untouched a b h F r zn zp zq zs =
       sound-frame owner above first next back owner′ above′ first′ next′ back′ o a b h F r (λ k c. record {
-        owner-same = w .owner-kept k (apart k n F c zn);
+        owner-same = w .owner-kept k (apart-in k n F c zn);
         above-same = w .above-kept k;
-        first-same = w .first-kept k (λ e _. apart k p F c zp e);
-        next-same = w .next-kept k (apart k n F c zn) (λ e _. apart k q F c zq e);
-        back-same = w .back-kept k (sound-low owner above first next back o a b h F k r c) (apart k s F c zs);
+        first-same = w .first-kept k (λ e _. apart-in k p F c zp e);
+        next-same = w .next-kept k (apart-in k n F c zn) (λ e _. apart-in k q F c zq e);
+        back-same = w .back-kept k (sound-low owner above first next back o a b h F k r c) (apart-in k s F c zs);
       })
 
   -- the chain after n now comes after q
@@ -90,9 +86,9 @@ module _ (owner above first next back owner′ above′ first′ next′ back′
   closed (node j K R) r zn zp zq d =
       let c : 1 ≤ count j (node j K R) = omega (arith, one-same j) in
       let e : s ≡ j = r .0 in
-      let jn : j ≢ n = apart j n (node j K R) c zn in
-      let jp : j ≢ p = apart j p (node j K R) c zp in
-      let jq : j ≢ q = apart j q (node j K R) c zq in
+      let jn : j ≢ n = apart-in j n (node j K R) c zn in
+      let jp : j ≢ p = apart-in j p (node j K R) c zp in
+      let jq : j ≢ q = apart-in j q (node j K R) c zq in
       let zK : count s K ≡ 0 = rw e (omega (arith, d j, one-same j)) in
       let zR : count s R ≡ 0 = rw e (omega (arith, d j, one-same j)) in (
         e,

@@ -15,7 +15,7 @@ use Rattle.layout.proofs.Field.{field-low, field-high}
 use Rattle.layout.proofs.Kept.{objects-kept, blocks-kept}
 use Rattle.layout.proofs.Counts.{one-other, sum-some}
 use Rattle.layout.proofs.Linking.{sum-put, sum-one, sum-two, chain-frame}
-use Rattle.call_prune.specs.Links.{droppedLinks, Placed}
+use Rattle.call_prune.specs.Links.{droppedLinks, NamesSlots}
 use Rattle.call_prune.proofs.Around.{Around, around}
 use Rattle.call_prune.proofs.Removing.{without, without-else, without-none, Distinct, without-sound, without-count}
 use Rattle.call_prune.proofs.Dropping.{dropped-owners, dropped-rows, free-head, free-next, next-kept, unlinks}
@@ -72,7 +72,7 @@ module _ (l : List ℕ) (c : Caps l) where
       (λ nz. absurd (omega (arith, around-tree o lo hi 0 (omega arith) .low)))
 
 -- so its links name slots
-pub placed : (l : List ℕ) → length l ≡ Layout.LINKS → Caps l → (j : ℕ) → ownerOf l j ≢ 0 → Placed l j
+pub placed : (l : List ℕ) → length l ≡ Layout.LINKS → Caps l → (j : ℕ) → ownerOf l j ≢ 0 → NamesSlots l j
 placed l z c j alive =
     let A = in-tree l c j alive .place in
     record {
@@ -86,7 +86,7 @@ placed l z c j alive =
 
 -- ---- the trees and the free records once the leaf j has ended
 
-module _ {l : List ℕ} {j : ℕ} (P : Placed l j) (child : parentOf l j ≢ 0) (c : Caps l)
+module _ {l : List ℕ} {j : ℕ} (P : NamesSlots l j) (child : parentOf l j ≢ 0) (c : Caps l)
     (alive : ownerOf l j ≢ 0) (leaf : firstChildOf l j ≡ 0) where
   abbrev l′ : List ℕ
   l′ = droppedLinks l j

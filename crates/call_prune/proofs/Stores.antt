@@ -11,7 +11,7 @@ use Rattle.rules.proofs.Tests.{by-eq, pick-yes, pick-not}
 use Rattle.layout.specs.Layout as Layout
 use Rattle.layout.specs.Rows.{field, parentOf, firstChildOf, nextCapOf, prevCapOf}
 use Rattle.layout.proofs.Field.{field-in}
-use Rattle.call_prune.specs.Links.{namedAt, freed, droppedLinks, turnedLinks, turnedSlot, Placed, Turned}
+use Rattle.call_prune.specs.Links.{namedAt, freed, droppedLinks, turnedLinks, turnedSlot, NamesSlots, Turned}
 
 -- ---- the cell that names a capability
 
@@ -30,7 +30,7 @@ named-high p q hp hq = by-eq q 0
 
 -- ---- a leaf
 
-module _ {l : List ℕ} {j : ℕ} (P : Placed l j) where
+module _ {l : List ℕ} {j : ℕ} (P : NamesSlots l j) where
   -- the cell of the slot in a row
   pub cell : (off : ℕ) → field 512 off l j ≡ getD l (off + j) 0
   cell off = field-in 512 off l j (P .low) (P .high)
@@ -100,7 +100,7 @@ module _ (l : List ℕ) (k j : ℕ) where
     up-slot = pick-yes (eqb (firstChildOf l j) 0) _ (firstChildOf l j) (eq-eqb (firstChildOf l j) 0 z)
         ∙ pick-not (eqb j k) 0 (parentOf l j) (ne-eqb j k n)
 
-module _ {l : List ℕ} {j : ℕ} (P : Placed l j) (k c : ℕ) (e : c ≡ getD l (Layout.«FIRST_CHILD» + j) 0) where
+module _ {l : List ℕ} {j : ℕ} (P : NamesSlots l j) (k c : ℕ) (e : c ≡ getD l (Layout.«FIRST_CHILD» + j) 0) where
   first-is : firstChildOf l j ≡ c
   first-is = cell P Layout.«FIRST_CHILD» ∙ sym e
 

@@ -6,6 +6,7 @@ use mathlib.Core.Bool.{true, false}
 use mathlib.Core.List.{List}
 use lib.Dec.{eqb}
 use lib.ListN.{length, getD, set}
+use Rattle.rules.specs.Limit as Limit
 use Rattle.layout.specs.Layout as Layout
 use Rattle.layout.specs.Rows.{ownerOf, parentOf, firstChildOf, nextCapOf, prevCapOf}
 use Rattle.layout.specs.Shape.{Shape}
@@ -66,13 +67,13 @@ deletedLinks l k = droppedLinks (prunedLinks l k) k
 -- ---- what the code asks
 
 -- j is a capability's slot, and its links name slots, or none
-pub record Placed (l : List ℕ) (j : ℕ) : Type 0 where
+pub record NamesSlots (l : List ℕ) (j : ℕ) : Type 0 where
   pub links : length l ≡ Layout.LINKS
   pub low : 1 ≤ j
-  pub high : j ≤ 512
-  pub parent-high : parentOf l j ≤ 512
-  pub next-high : nextCapOf l j ≤ 512
-  pub prev-high : prevCapOf l j ≤ 512
+  pub high : j ≤ Limit.caps
+  pub parent-high : parentOf l j ≤ Limit.caps
+  pub next-high : nextCapOf l j ≤ Limit.caps
+  pub prev-high : prevCapOf l j ≤ Limit.caps
 
 -- k is a living capability of links of a well-formed store's shape
 pub record Living (l : List ℕ) (k : ℕ) : Type 0 where

@@ -1,15 +1,15 @@
 // All descendants of a capability end. No stack is needed: down by first children to a leaf, which ends, and on at its
 // parent, until the capability is a leaf itself.
 ghost use mathlib.Core.Path.{_≡_};
-ghost use Rattle.call_prune.specs.Links.{prunedLinks, Placed, Living, Turned};
+ghost use Rattle.call_prune.specs.Links.{prunedLinks, NamesSlots, Living, Turned};
 use crate::leaf::drop_leaf;
-use call_steps::widen::slot;
 use layout::FIRST_CHILD;
 use layout::PARENT;
+use layout::slot;
 
 // One turn at slot j: down to its first child, or up from it once it has ended; 0 where k itself is a leaf.
 fn turn(links: &mut [u16], k: usize, j: usize) -> usize
-    requires { ⌜ Placed (now links) j ⌝ }
+    requires { ⌜ NamesSlots (now links) j ⌝ }
     ensures { λ r. ⌜ Turned (now (links .entry)) k j (now (links .exit)) r ⌝ }
 {
     let child = slot(links[FIRST_CHILD + j]);

@@ -1,18 +1,19 @@
 // A capability that has no child ends: it leaves the chain of its siblings and joins the free records.
 ghost use mathlib.Core.Path.{_≡_};
 ghost use Prim.Native.Nat.{_≤_};
-ghost use Rattle.call_prune.specs.Links.{namedAt, droppedLinks, Placed};
-use call_steps::widen::slot;
+ghost use Rattle.rules.specs.Limit;
+ghost use Rattle.call_prune.specs.Links.{namedAt, droppedLinks, NamesSlots};
 use layout::FIRST_CHILD;
 use layout::FREE_CAPS;
 use layout::NEXT_CAP;
 use layout::OWNER;
 use layout::PARENT;
 use layout::PREV_CAP;
+use layout::slot;
 
 // The cell that names a capability with parent p and previous sibling q.
 fn named_at(p: usize, q: usize) -> usize
-    requires { ⌜ p ≤ 512 ⌝ ∗ ⌜ q ≤ 512 ⌝ }
+    requires { ⌜ p ≤ Limit.caps ⌝ ∗ ⌜ q ≤ Limit.caps ⌝ }
     ensures { λ r. ⌜ r ≡ namedAt p q ⌝ }
 {
     if q == 0 {
@@ -22,8 +23,8 @@ fn named_at(p: usize, q: usize) -> usize
 }
 
 // Ends j, which has no child and is no master.
-pub fn drop_leaf(links: &mut [u16], j: usize)
-    requires { ⌜ Placed (now links) j ⌝ }
+pub(crate) fn drop_leaf(links: &mut [u16], j: usize)
+    requires { ⌜ NamesSlots (now links) j ⌝ }
     ensures { λ _. ⌜ now (links .exit) ≡ droppedLinks (now (links .entry)) j ⌝ }
 {
     let p = slot(links[PARENT + j]);

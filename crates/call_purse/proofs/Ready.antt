@@ -8,7 +8,7 @@ use native.Mathlib.Omega.{arith}
 use lib.Dec.{ltb, eqb}
 use borrow.Author.Tests.{eq-eqb, ltb-false}
 use Rattle.rules.specs.Slots.{sumOver}
-use Rattle.rules.specs.Store.{State, path, masterOf, allCash, allMasters, moneyIn}
+use Rattle.rules.specs.Store.{State, path, rootOf, allCash, allMasters, moneyIn}
 use Rattle.rules.specs.Valid.{Lives, Valid}
 use Rattle.rules.proofs.Tests.{by-eq, pick-yes}
 use Rattle.rules.proofs.Climbs.{any-none}
@@ -33,11 +33,11 @@ sum-part (suc n) f i p q = by-eq i (suc n)
 
 -- the master's moneyword and a process's cash
 total-part : (s : State) → Valid s → (me k : ℕ) → 1 ≤ me → me ≤ 64 → Lives (s .cap) k
-    → s .cash me + s .money (masterOf s k) ≤ 4294967295
+    → s .cash me + s .money (rootOf s k) ≤ 4294967295
 unfolding moneyIn allCash allMasters
 total-part s h me k low high alive =
     let caps = h .formed .caps in
-    let m = masterOf s k in
+    let m = rootOf s k in
     let here = caps .live m (master-lives s caps k alive) in
     let own : ℕ → ℕ = λ i. elim (eqb (s .cap i .parent) 0) [ true ↦ s .money i | false ↦ 0 ] in
     let is = pick-yes (eqb (s .cap m .parent) 0) (s .money m) 0 (eq-eqb _ 0 (master-top s caps k alive)) in
@@ -58,10 +58,10 @@ module _ (b l w : List ℕ) (g : Plain b l w) (me k : ℕ) (caller : Process b l
       let caps = g .valid .formed .caps in
       let alive = cap-shown b l w k (held .live) in
       let none = any-none (λ i. ltb (s .money i) sum) (path s k) (stops-is b l w g k held Out sum ∙ h)
-      (masterOf s k) (descends-one s caps k (masterOf s k) (master-above s caps k alive)) in
+      (rootOf s k) (descends-one s caps k (rootOf s k) (master-above s caps k alive)) in
       omega (
         arith,
-        ltb-false (s .money (masterOf s k)) sum none,
+        ltb-false (s .money (rootOf s k)) sum none,
         total-part s (g .valid) me k (caller .low) (caller .high) alive,
         cash-is b l w me caller,
       )

@@ -7,6 +7,8 @@ use mathlib.Core.Bool.{not}
 use mathlib.Core.List.{List, [], _∷_}
 use lib.Dec.{eqb}
 use lib.ListN.{length, set, replicate}
+use Rattle.rules.specs.Limit as Limit
+use Rattle.rules.specs.Code as Code
 use Rattle.rules.specs.Slots.{some}
 use Rattle.rules.specs.Store.{Password}
 use Rattle.rules.specs.Refusals.{_when_, first}
@@ -41,8 +43,8 @@ pub record Renews (l w scratch : List ℕ) (k : ℕ) (drawn : Password) (l′ w�
 
 unfoldable pub renameStop : List ℕ → List ℕ → List ℕ → ℕ → ℕ → ℕ
 renameStop b l w k p1 = first
-    (11 when not (eqb (parentOf l k) 0)
-    ∷ 12 when some 512 (taken (view b l w) (ownerOf l k) p1)
+    (Code.notMaster when not (eqb (parentOf l k) 0)
+    ∷ Code.taken when some Limit.caps (taken (view b l w) (ownerOf l k) p1)
     ∷ [])
 
 -- the new master handed back as drawn

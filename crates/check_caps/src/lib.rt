@@ -5,8 +5,6 @@ ghost use Rattle.layout.specs.Layout;
 ghost use Rattle.layout.specs.Decides.{Decides};
 ghost use Rattle.check_rows.specs.Slices.{LinksWords};
 ghost use Rattle.check_caps.specs.Parts.{CapMeets, Whole, Within};
-use check_rows::CAP_SLOTS;
-use check_rows::OBJECT_SLOTS;
 use check_rows::link;
 use check_rows::word;
 use layout::END;
@@ -15,6 +13,13 @@ use layout::PARENT;
 use layout::RIGHTS;
 use layout::SIZE;
 use layout::START;
+use values::limit::MAX_CAPS;
+use values::limit::MAX_OBJECTS;
+use values::limit::MAX_RIGHTS;
+use values::rights::Rights;
+
+// The limit in the type of the links.
+const ALL_RIGHTS: u16 = MAX_RIGHTS as u16;
 
 // The window is the whole of object o.
 fn is_whole(links: &[u16], o: usize, start: u32, end: u32) -> bool
@@ -24,7 +29,7 @@ fn is_whole(links: &[u16], o: usize, start: u32, end: u32) -> bool
     if start != 0 {
         return false;
     }
-    let size = link(links, OBJECT_SLOTS, SIZE, o) as u32;
+    let size = link(links, MAX_OBJECTS, SIZE, o) as u32;
     end == size
 }
 
@@ -33,16 +38,16 @@ fn is_within(links: &[u16], words: &[u32], i: usize, p: usize) -> bool
     requires { ⌜ LinksWords (now links) (now words) ⌝ }
     ensures { λ r. ⌜ Decides (Within (now (links .entry)) (now (words .entry)) i p) r ⌝ }
 {
-    let rights = link(links, CAP_SLOTS, RIGHTS, i);
-    let both = rights & link(links, CAP_SLOTS, RIGHTS, p);
-    if both != rights {
+    let rights = Rights(link(links, MAX_CAPS, RIGHTS, i));
+    let both = rights.both(Rights(link(links, MAX_CAPS, RIGHTS, p)));
+    if both.0 != rights.0 {
         return false;
     }
-    let start = word(words, CAP_SLOTS, START, i);
-    if start < word(words, CAP_SLOTS, START, p) {
+    let start = word(words, MAX_CAPS, START, i);
+    if start < word(words, MAX_CAPS, START, p) {
         return false;
     }
-    word(words, CAP_SLOTS, END, i) <= word(words, CAP_SLOTS, END, p)
+    word(words, MAX_CAPS, END, i) <= word(words, MAX_CAPS, END, p)
 }
 
 // The fields of slot i, if it holds a capability.
@@ -50,19 +55,19 @@ pub fn cap_fits(links: &[u16], words: &[u32], i: usize) -> bool
     requires { ⌜ LinksWords (now links) (now words) ⌝ }
     ensures { λ r. ⌜ Decides (CapMeets (now (links .entry)) (now (words .entry)) i) r ⌝ }
 {
-    let owner = link(links, CAP_SLOTS, OWNER, i) as usize;
+    let owner = link(links, MAX_CAPS, OWNER, i) as usize;
     if owner == 0 {
         return true;
     }
-    if link(links, CAP_SLOTS, RIGHTS, i) > 8191 {
+    if link(links, MAX_CAPS, RIGHTS, i) > ALL_RIGHTS {
         return false;
     }
-    let start = word(words, CAP_SLOTS, START, i);
-    let end = word(words, CAP_SLOTS, END, i);
+    let start = word(words, MAX_CAPS, START, i);
+    let end = word(words, MAX_CAPS, END, i);
     if start > end {
         return false;
     }
-    let parent = link(links, CAP_SLOTS, PARENT, i) as usize;
+    let parent = link(links, MAX_CAPS, PARENT, i) as usize;
     if parent == 0 {
         return is_whole(links, owner, start, end);
     }

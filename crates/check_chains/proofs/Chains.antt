@@ -1,4 +1,4 @@
--- Chains as parts: one step along a chain, one object after another, and the free chain.
+-- Chains as parts: one step along a chain, one object after another, and the free list.
 use mathlib.Core.Path.{_≡_, refl, ap, sym, _∙_}
 use mathlib.Core.Logic.{_≢_}
 use mathlib.Core.Bool.{Bool, true, false, false≢true}
@@ -113,7 +113,7 @@ module _ {X : Type 0} (Fits : ℕ → X → Type 0) (holds : X → ℕ → ℕ) 
             (λ i a b. ap (λ y. holds y k) (at-else T (suc n) x i (λ e. omega arith))),
       )
 
--- ---- the free chain: it holds just the free records if it marks just those
+-- ---- the free list: it holds just the free records if it marks just those
 
 marked : (m : ℕ) → m ≢ 0 → 1 ≤ m
 marked m ne = omega arith

@@ -4,6 +4,7 @@ use mathlib.Core.Path.{_≡_}
 use mathlib.Core.Logic.{_≢_}
 use mathlib.Core.List.{List}
 use lib.ListN.{length}
+use Rattle.rules.specs.Limit as Limit
 use Rattle.rules.specs.Slots.{sumOver}
 use Rattle.layout.specs.Layout as Layout
 use Rattle.layout.specs.Rows.{field}
@@ -68,11 +69,11 @@ blocksOfAll l = each (BlocksOf l) (λ xs k. times k xs)
 -- the slice of links is whole, and there are marks for its 512 capabilities or blocks
 pub record Checkable (l seen : List ℕ) : Type 0 where
   pub links : length l ≡ Layout.LINKS
-  pub marks : Marks 512 seen
+  pub marks : Marks Limit.caps seen
 
 -- and o is the slot of an object
 pub record CheckableAt (o : ℕ) (l seen : List ℕ) : Type 0 where
   pub low : 1 ≤ o
-  pub high : o ≤ 64
+  pub high : o ≤ Limit.objects
   pub links : length l ≡ Layout.LINKS
-  pub marks : Marks 512 seen
+  pub marks : Marks Limit.caps seen

@@ -1,6 +1,7 @@
-// 01, "a chain of exactly the blocks that its size needs", of every object; all other blocks are in the free chain.
+// 01, "a chain of exactly the blocks that its size needs", of every object; all other blocks are in the free list.
 ghost use mathlib.Core.Path.{_≡_};
 ghost use lib.ListN.{length};
+ghost use Rattle.rules.specs.Limit;
 ghost use Rattle.rules.specs.Store.{blocks};
 ghost use Rattle.layout.specs.Layout;
 ghost use Rattle.layout.specs.Shape.{Blocks};
@@ -8,7 +9,6 @@ ghost use Rattle.layout.specs.Decides.{Decides};
 ghost use Rattle.check_chains.specs.Marking.{Marking};
 ghost use Rattle.check_chains.specs.Parts.{blocksOf, blocksOfAll, Checkable, CheckableAt};
 use crate::chain::counted;
-use crate::chain::slot;
 use crate::chain::walk;
 use crate::marks::full;
 use layout::FIRST_BLOCK;
@@ -16,17 +16,20 @@ use layout::FREE_BLOCKS;
 use layout::MASTER;
 use layout::NEXT_BLOCK;
 use layout::SIZE;
+use layout::slot;
 use values::blocks::blocks_of;
+use values::limit::MAX_BLOCKS;
+use values::limit::MAX_OBJECTS;
 
 // A size as the number of blocks that it needs.
-pub fn need(size: u16) -> usize
+fn need(size: u16) -> usize
     ensures { λ r. ⌜ r ≡ blocks size ⌝ }
 {
     blocks_of(size as u32) as usize
 }
 
 // Object o has its blocks; a free object has none.
-pub fn one_blocks(links: &[u16], seen: &mut [u8], o: usize) -> bool
+fn one_blocks(links: &[u16], seen: &mut [u8], o: usize) -> bool
     requires { ⌜ CheckableAt o (now links) (now seen) ⌝ }
     ensures { λ r. ⌜ Marking (blocksOf (now (links .entry)) o) (now (seen .entry)) (now (seen .exit)) r ⌝ }
 {
@@ -36,15 +39,15 @@ pub fn one_blocks(links: &[u16], seen: &mut [u8], o: usize) -> bool
     }
     let many = need(links[SIZE + o]);
     let first = slot(links[FIRST_BLOCK + o]);
-    counted(links, NEXT_BLOCK, 512, seen, first, many)
+    counted(links, NEXT_BLOCK, MAX_BLOCKS, seen, first, many)
 }
 
 // Every object has its blocks.
-pub fn all_blocks(links: &[u16], seen: &mut [u8]) -> bool
+fn all_blocks(links: &[u16], seen: &mut [u8]) -> bool
     requires { ⌜ Checkable (now links) (now seen) ⌝ }
-    ensures { λ r. ⌜ Marking (blocksOfAll (now (links .entry)) 64) (now (seen .entry)) (now (seen .exit)) r ⌝ }
+    ensures { λ r. ⌜ Marking (blocksOfAll (now (links .entry)) Limit.objects) (now (seen .entry)) (now (seen .exit)) r ⌝ }
 {
-    let mut o: usize = 64;
+    let mut o: usize = MAX_OBJECTS;
     while 0 < o {
         let ok = one_blocks(links, seen, o);
         if ok {
@@ -56,17 +59,17 @@ pub fn all_blocks(links: &[u16], seen: &mut [u8]) -> bool
     true
 }
 
-// Each block is in one object's chain or in the free chain, once.
+// Each block is in one object's chain or in the free list, once.
 pub fn check_blocks(links: &[u16]) -> bool
     requires { ⌜ length (now links) ≡ Layout.LINKS ⌝ }
     ensures { λ r. ⌜ Decides (Blocks (now (links .entry))) r ⌝ }
 {
-    let mut seen = [0u8; 513];
+    let mut seen = [0u8; MAX_BLOCKS + 1];
     let ok = all_blocks(links, &mut seen);
     if ok {
         let head = slot(links[FREE_BLOCKS]);
-        let good = walk(links, NEXT_BLOCK, 512, &mut seen, head);
-        if good { full(&seen, 512) } else { false }
+        let good = walk(links, NEXT_BLOCK, MAX_BLOCKS, &mut seen, head);
+        if good { full(&seen, MAX_BLOCKS) } else { false }
     } else {
         false
     }

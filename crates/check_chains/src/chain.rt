@@ -1,18 +1,11 @@
 // Walking a chain: its records are marked one by one, and one that is marked already is refused.
-ghost use mathlib.Core.Path.{_≡_};
 ghost use Rattle.check_chains.specs.Marking.{Marking, RowFits, BlankRows};
 ghost use Rattle.check_chains.specs.Parts.{chainIn, freeChainIn, Any, Long};
 use crate::marks::free_marked;
-
-// A link as an index.
-pub fn slot(x: u16) -> usize
-    ensures { λ r. ⌜ r ≡ x ⌝ }
-{
-    x as usize
-}
+use layout::slot;
 
 // There is a chain from head on, by the n links from off on.
-pub fn walk(links: &[u16], off: usize, n: usize, seen: &mut [u8], head: usize) -> bool
+pub(crate) fn walk(links: &[u16], off: usize, n: usize, seen: &mut [u8], head: usize) -> bool
     requires { ⌜ RowFits n off (now links) (now seen) ⌝ }
     ensures { λ r. ⌜ Marking (chainIn n off (now (links .entry)) Any head) (now (seen .entry)) (now (seen .exit)) r ⌝ }
 {
@@ -32,7 +25,7 @@ pub fn walk(links: &[u16], off: usize, n: usize, seen: &mut [u8], head: usize) -
 }
 
 // There is a chain of exactly `need` records.
-pub fn counted(
+pub(crate) fn counted(
     links: &[u16],
     off: usize,
     n: usize,

@@ -31,7 +31,7 @@ pub fn full(seen: &[u8], n: usize) -> bool
 }
 
 // Of the records 1 to n just those are marked that are free: the cell in the row from off on is 0.
-pub fn free_marked(links: &[u16], off: usize, n: usize, seen: &[u8]) -> bool
+pub(crate) fn free_marked(links: &[u16], off: usize, n: usize, seen: &[u8]) -> bool
     requires { ⌜ RowFits n off (now links) (now seen) ⌝ }
     ensures { λ r. ⌜ Decides (FreeMarked n (field n off (now (links .entry))) (now (seen .entry))) r ⌝ }
 {

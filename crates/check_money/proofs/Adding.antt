@@ -6,9 +6,10 @@ use native.Mathlib.Nat.{mul-suc}
 use native.Mathlib.Numerals.{add-one}
 use native.Mathlib.Omega.{arith}
 use Rattle.rules.specs.Slots.{sumOver}
-use Rattle.rules.specs.Store.{sumsIn}
-use Rattle.layout.specs.View.{messages}
-use Rattle.check_money.specs.Amount.{Amount}
+use Rattle.rules.specs.Limit as Limit
+use Rattle.rules.specs.Store.{sumsIn, allMasters}
+use Rattle.layout.specs.View.{messages, view}
+use Rattle.check_money.specs.Amount.{Amount, ofMaster, masterMoney, MastersAre}
 
 -- ---- over slots, from the last down
 
@@ -47,6 +48,12 @@ module _ (f : ℕ → ℕ) (most n : ℕ) where
   added-all k total z a =
       let e : k ≡ 0 = omega arith in
       record { is = omega (arith, ap (λ i. sumOver i f) e, sum-none f); small = omega arith }
+
+-- of the masters' moneywords
+pub masters-added : (b l w : List ℕ) (k total : ℕ) → k ≤ 0
+    → Added (masterMoney (view b l w)) Limit.word Limit.caps k total → MastersAre b l w total
+unfolding allMasters ofMaster
+masters-added b l w k total z a = added-all _ _ _ _ _ z a
 
 -- ---- over messages, from the first on
 

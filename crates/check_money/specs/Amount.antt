@@ -4,6 +4,7 @@ use mathlib.Core.Path.{_≡_}
 use mathlib.Core.Bool.{true, false}
 use mathlib.Core.List.{List}
 use lib.Dec.{eqb}
+use Rattle.rules.specs.Limit as Limit
 use Rattle.rules.specs.Store.{State, sumsIn, allCash, allMasters, allBoxes}
 use Rattle.layout.specs.Rows.{sumOf}
 use Rattle.layout.specs.View.{messages, view}
@@ -14,7 +15,7 @@ pub record Amount (most sum r : ℕ) : Type 0 where
   pub small : r ≤ most
 
 abbrev pub CashIs : List ℕ → List ℕ → List ℕ → ℕ → Type 0
-CashIs b l w = Amount (4294967295 * 64) (allCash (view b l w))
+CashIs b l w = Amount (Limit.word * Limit.objects) (allCash (view b l w))
 
 -- an amount that counts for a master only
 unfoldable pub ofMaster : ℕ → ℕ → ℕ
@@ -25,15 +26,15 @@ abbrev pub masterMoney : State → ℕ → ℕ
 masterMoney s i = ofMaster (s .cap i .parent) (s .money i)
 
 abbrev pub MastersAre : List ℕ → List ℕ → List ℕ → ℕ → Type 0
-MastersAre b l w = Amount (4294967295 * 512) (allMasters (view b l w))
+MastersAre b l w = Amount (Limit.word * Limit.caps) (allMasters (view b l w))
 
 -- the sums of n messages from slot i on, whatever their bytes
 abbrev pub SumsAre : List ℕ → ℕ → ℕ → ℕ → Type 0
-SumsAre w n i r = (len : ℕ → ℕ) (text : List ℕ) → Amount (4294967295 * 255) (sumsIn (messages n len (sumOf w) text i)) r
+SumsAre w n i r = (len : ℕ → ℕ) (text : List ℕ) → Amount (Limit.word * 255) (sumsIn (messages n len (sumOf w) text i)) r
 
 -- the sums in the box of object o; its count is a byte
 abbrev pub BoxIs : List ℕ → List ℕ → List ℕ → ℕ → ℕ → Type 0
-BoxIs b l w o = Amount (4294967295 * 255) (sumsIn (view b l w .box o))
+BoxIs b l w o = Amount (Limit.word * 255) (sumsIn (view b l w .box o))
 
 abbrev pub BoxesAre : List ℕ → List ℕ → List ℕ → ℕ → Type 0
-BoxesAre b l w = Amount (4294967295 * 255 * 64) (allBoxes (view b l w))
+BoxesAre b l w = Amount (Limit.word * 255 * Limit.objects) (allBoxes (view b l w))

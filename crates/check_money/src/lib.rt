@@ -3,6 +3,7 @@ ghost use mathlib.Core.Path.{_≡_};
 ghost use mathlib.Core.List.{List};
 ghost use Prim.Native.Nat.{ℕ, _≤_};
 ghost use lib.ListN.{length};
+ghost use Rattle.rules.specs.Limit;
 ghost use Rattle.layout.specs.Layout;
 ghost use Rattle.layout.specs.Rows.{masterOf, flagOf};
 ghost use Rattle.layout.specs.View.{isProcess, view};
@@ -11,9 +12,6 @@ ghost use Rattle.layout.specs.Fields.{TotalFits};
 ghost use Rattle.layout.specs.Decides.{Decides};
 ghost use Rattle.check_rows.specs.Slices.{BytesLinks, LinksWords};
 ghost use Rattle.check_money.specs.Amount.{CashIs, MastersAre, SumsAre, BoxIs, BoxesAre, masterMoney};
-use check_rows::CAP_SLOTS;
-use check_rows::MESSAGE_SLOTS;
-use check_rows::OBJECT_SLOTS;
 use check_rows::byte;
 use check_rows::link;
 use check_rows::word;
@@ -22,31 +20,41 @@ use layout::COUNT;
 use layout::FLAG;
 use layout::HOUSE;
 use layout::MASTER;
+use layout::MESSAGE_SLOTS;
 use layout::MONEY;
 use layout::OWNER;
 use layout::PARENT;
 use layout::SUM;
+use values::cash::Cash;
+use values::limit::BOX_SLOTS;
+use values::limit::MAX_CAPS;
+use values::limit::MAX_OBJECTS;
+use values::limit::MAX_WORD;
+use values::moneyword::Moneyword;
+
+// Of sums in 64 bits.
+const MAX_TOTAL: u64 = MAX_WORD as u64;
 
 // Slot o holds a process.
 fn is_process(bytes: &[u8], links: &[u16], o: usize) -> bool
     requires { ⌜ BytesLinks (now bytes) (now links) ⌝ }
     ensures { λ r. ⌜ r ≡ isProcess (masterOf (now (links .entry))) (flagOf (now (bytes .entry))) o ⌝ }
 {
-    if link(links, OBJECT_SLOTS, MASTER, o) == 0 {
+    if link(links, MAX_OBJECTS, MASTER, o) == 0 {
         return false;
     }
-    byte(bytes, OBJECT_SLOTS, FLAG, o) != 0
+    byte(bytes, MAX_OBJECTS, FLAG, o) != 0
 }
 
 // The cash of slot o, 0 if it holds no process.
-fn cash_at(bytes: &[u8], links: &[u16], words: &[u32], o: usize) -> u32
+fn cash_at(bytes: &[u8], links: &[u16], words: &[u32], o: usize) -> Cash
     requires { ⌜ Sized (now bytes) (now links) (now words) ⌝ }
-    ensures { λ r. ⌜ r ≡ view (now (bytes .entry)) (now (links .entry)) (now (words .entry)) .cash o ⌝ }
+    ensures { λ r. ⌜ r .0 ≡ view (now (bytes .entry)) (now (links .entry)) (now (words .entry)) .cash o ⌝ }
 {
     if is_process(bytes, links, o) {
-        return word(words, OBJECT_SLOTS, CASH, o);
+        return Cash(word(words, MAX_OBJECTS, CASH, o));
     }
-    0
+    Cash(0)
 }
 
 pub fn all_cash(bytes: &[u8], links: &[u16], words: &[u32]) -> u64
@@ -54,26 +62,26 @@ pub fn all_cash(bytes: &[u8], links: &[u16], words: &[u32]) -> u64
     ensures { λ r. ⌜ CashIs (now (bytes .entry)) (now (links .entry)) (now (words .entry)) r ⌝ }
 {
     let mut total: u64 = 0;
-    let mut o: usize = OBJECT_SLOTS;
+    let mut o: usize = MAX_OBJECTS;
     while 0 < o {
-        total += cash_at(bytes, links, words, o) as u64;
+        total += cash_at(bytes, links, words, o).0 as u64;
         o -= 1;
     }
     total
 }
 
 // The moneyword of slot i, 0 if it holds no master.
-pub fn money_at(links: &[u16], words: &[u32], i: usize) -> u32
+pub fn money_at(links: &[u16], words: &[u32], i: usize) -> Moneyword
     requires { ⌜ LinksWords (now links) (now words) ⌝ }
-    ensures { λ r. ⌜ ((b : List ℕ) → r ≡ masterMoney (view b (now (links .entry)) (now (words .entry))) i) ⌝ }
+    ensures { λ r. ⌜ ((b : List ℕ) → r .0 ≡ masterMoney (view b (now (links .entry)) (now (words .entry))) i) ⌝ }
 {
-    if link(links, CAP_SLOTS, OWNER, i) == 0 {
-        return 0;
+    if link(links, MAX_CAPS, OWNER, i) == 0 {
+        return Moneyword(0);
     }
-    if link(links, CAP_SLOTS, PARENT, i) != 0 {
-        return 0;
+    if link(links, MAX_CAPS, PARENT, i) != 0 {
+        return Moneyword(0);
     }
-    word(words, CAP_SLOTS, MONEY, i)
+    Moneyword(word(words, MAX_CAPS, MONEY, i))
 }
 
 // The sums of n messages from slot i on.
@@ -94,11 +102,15 @@ fn sums_from(words: &[u32], n: usize, i: usize) -> u64
 
 // The sums in the box of slot o, 0 if it holds no process.
 fn box_at(bytes: &[u8], links: &[u16], words: &[u32], o: usize) -> u64
-    requires { ⌜ Sized (now bytes) (now links) (now words) ⌝ ∗ ⌜ o ≤ 64 ⌝ }
+    requires { ⌜ Sized (now bytes) (now links) (now words) ⌝ ∗ ⌜ o ≤ Limit.objects ⌝ }
     ensures { λ r. ⌜ BoxIs (now (bytes .entry)) (now (links .entry)) (now (words .entry)) o r ⌝ }
 {
     if is_process(bytes, links, o) {
-        return sums_from(words, byte(bytes, OBJECT_SLOTS, COUNT, o) as usize, o * 4);
+        return sums_from(
+            words,
+            byte(bytes, MAX_OBJECTS, COUNT, o) as usize,
+            o * BOX_SLOTS,
+        );
     }
     0
 }
@@ -108,7 +120,7 @@ pub fn all_boxes(bytes: &[u8], links: &[u16], words: &[u32]) -> u64
     ensures { λ r. ⌜ BoxesAre (now (bytes .entry)) (now (links .entry)) (now (words .entry)) r ⌝ }
 {
     let mut total: u64 = 0;
-    let mut o: usize = OBJECT_SLOTS;
+    let mut o: usize = MAX_OBJECTS;
     while 0 < o {
         total += box_at(bytes, links, words, o);
         o -= 1;
@@ -125,5 +137,5 @@ pub fn total_fits(bytes: &[u8], links: &[u16], words: &[u32], masters: u64) -> b
     let cash = all_cash(bytes, links, words);
     let boxes = all_boxes(bytes, links, words);
     let house = words[HOUSE] as u64;
-    cash + masters + boxes + house <= 4294967295
+    cash + masters + boxes + house <= MAX_TOTAL
 }

@@ -3,6 +3,7 @@ use Prim.Native.Nat.{ℕ, _+_, _*_, _/_, _%_}
 use mathlib.Core.Path.{_≡_}
 use mathlib.Core.Logic.{_≢_}
 use mathlib.Core.List.{List}
+use Rattle.rules.specs.Limit as Limit
 use Rattle.layout.specs.Rows.{masterOf, volumeOf, serialOf}
 use Rattle.check_rows.specs.Buckets.{Keys}
 
@@ -21,7 +22,7 @@ place volume serial = (serial * 49471 / 512 + volume * 73) % 128
 -- what the table is of
 abbrev pub nameKeys : List ℕ → List ℕ → Keys
 nameKeys b l = record {
-  slots = 64;
+  slots = Limit.objects;
   places = 128;
   Used = λ o. masterOf l o ≢ 0;
   place = λ o. place (volumeOf b o) (serialOf l o);

@@ -3,6 +3,7 @@ use Prim.Native.Nat.{ℕ, _+_, _*_, _/_, _%_}
 use mathlib.Core.Path.{_≡_}
 use mathlib.Core.Logic.{_≢_}
 use mathlib.Core.List.{List}
+use Rattle.rules.specs.Limit as Limit
 use Rattle.layout.specs.Rows.{ownerOf, p1Of}
 use Rattle.check_rows.specs.Buckets.{Keys}
 
@@ -21,7 +22,7 @@ bucket owner p1 = (p1 * 3242174889 / 4194304 + owner * 583) % 1024
 -- what the table is of
 abbrev pub passwords : List ℕ → List ℕ → Keys
 passwords l w = record {
-  slots = 512;
+  slots = Limit.caps;
   places = 1024;
   Used = λ i. ownerOf l i ≢ 0;
   place = λ i. bucket (ownerOf l i) (p1Of w i);

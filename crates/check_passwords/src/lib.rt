@@ -2,15 +2,16 @@
 // and each is compared only with those that were entered at the same place before it.
 ghost use mathlib.Core.Path.{_≡_};
 ghost use Prim.Native.Nat.{_≤_, _<_};
+ghost use Rattle.rules.specs.Limit;
 ghost use Rattle.layout.specs.Decides.{Decides};
 ghost use Rattle.check_rows.specs.Slices.{LinksWords};
 ghost use Rattle.check_rows.specs.Buckets.{NoneFrom, Chained, Buckets, Entered};
 ghost use Rattle.check_passwords.specs.Passwords.{SamePassword, bucket, passwords};
-use check_rows::CAP_SLOTS;
 use check_rows::link;
 use check_rows::word;
 use layout::OWNER;
 use layout::P1;
+use values::limit::MAX_CAPS;
 
 // The place in the table of an object and a p1.
 fn bucket_of(owner: u16, p1: u32) -> usize
@@ -24,19 +25,19 @@ fn same_password(links: &[u16], words: &[u32], i: usize, j: usize) -> bool
     requires { ⌜ LinksWords (now links) (now words) ⌝ }
     ensures { λ r. ⌜ Decides (SamePassword (now (links .entry)) (now (words .entry)) i j) r ⌝ }
 {
-    if word(words, CAP_SLOTS, P1, i) != word(words, CAP_SLOTS, P1, j) {
+    if word(words, MAX_CAPS, P1, i) != word(words, MAX_CAPS, P1, j) {
         return false;
     }
-    let owner = link(links, CAP_SLOTS, OWNER, i);
+    let owner = link(links, MAX_CAPS, OWNER, i);
     if owner == 0 {
         return false;
     }
-    owner == link(links, CAP_SLOTS, OWNER, j)
+    owner == link(links, MAX_CAPS, OWNER, j)
 }
 
 // No slot in the chain from slot `head` on has the object and the p1 of slot i.
 fn password_is_new(links: &[u16], words: &[u32], next: &[u16], i: usize, head: usize) -> bool
-    requires { ⌜ LinksWords (now links) (now words) ⌝ ∗ ⌜ Chained 512 (now next) i head ⌝ }
+    requires { ⌜ LinksWords (now links) (now words) ⌝ ∗ ⌜ Chained Limit.caps (now next) i head ⌝ }
     ensures { λ r. ⌜ Decides (NoneFrom (SamePassword (now (links .entry)) (now (words .entry)))
         (now (next .entry)) i head) r ⌝ }
 {
@@ -53,12 +54,12 @@ fn password_is_new(links: &[u16], words: &[u32], next: &[u16], i: usize, head: u
 // No slot above i has the object and the p1 of slot i, by the table of the slots above i, which gets slot i too.
 pub fn enter(links: &[u16], words: &[u32], heads: &mut [u16], next: &mut [u16], i: usize) -> bool
     requires { ⌜ LinksWords (now links) (now words) ⌝
-        ∗ ⌜ Buckets (passwords (now links) (now words)) (now heads) (now next) i ⌝ ∗ ⌜ (1 ≤ i) × (i ≤ 512) ⌝ }
+        ∗ ⌜ Buckets (passwords (now links) (now words)) (now heads) (now next) i ⌝ ∗ ⌜ (1 ≤ i) × (i ≤ Limit.caps) ⌝ }
     ensures { λ r. ⌜ Entered (passwords (now (links .entry)) (now (words .entry)))
         (SamePassword (now (links .entry)) (now (words .entry))) (now (heads .exit)) (now (next .exit)) i r ⌝ }
 {
-    let owner = link(links, CAP_SLOTS, OWNER, i);
-    let at = bucket_of(owner, word(words, CAP_SLOTS, P1, i));
+    let owner = link(links, MAX_CAPS, OWNER, i);
+    let at = bucket_of(owner, word(words, MAX_CAPS, P1, i));
     let head = heads[at];
     let new = password_is_new(links, words, next, i, head as usize);
     heads[at] = i as u16;

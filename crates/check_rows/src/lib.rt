@@ -4,13 +4,6 @@ ghost use Prim.Native.Nat.{_+_, _<_};
 ghost use lib.ListN.{length};
 ghost use Rattle.layout.specs.Rows.{field};
 
-// How many slots a row has: of objects, of capabilities, of messages.
-pub const OBJECT_SLOTS: usize = 64;
-
-pub const CAP_SLOTS: usize = 512;
-
-pub const MESSAGE_SLOTS: usize = 259;
-
 pub fn byte(bytes: &[u8], n: usize, off: usize, i: usize) -> u8
     requires { ⌜ off + n < length (now bytes) ⌝ }
     ensures { λ r. ⌜ r ≡ field n off (now (bytes .entry)) i ⌝ }

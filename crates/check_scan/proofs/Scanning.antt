@@ -5,7 +5,6 @@ use mathlib.Core.Bool.{true, false, false≢true}
 use mathlib.Core.List.{List, []}
 use lib.ListN.{getD, length}
 use native.Mathlib.Omega.{arith}
-use Rattle.rules.specs.Store.{allMasters}
 use Rattle.layout.specs.Layout as Layout
 use Rattle.layout.specs.Rows.{ownerOf}
 use Rattle.layout.specs.View.{view}
@@ -14,7 +13,7 @@ use Rattle.check_caps.specs.Parts.{CapMeets}
 use Rattle.check_passwords.specs.Passwords.{SamePassword, passwords}
 use Rattle.check_rows.specs.Buckets.{Buckets}
 use Rattle.check_rows.specs.Distinct.{NoneAbove}
-use Rattle.check_money.specs.Amount.{ofMaster, masterMoney, MastersAre}
+use Rattle.check_money.specs.Amount.{masterMoney}
 use Rattle.check_scan.specs.Scanned.{AllCaps, Scanned}
 use Rattle.check_rows.proofs.Counting.{Above, above-more, used-past, all-used}
 use Rattle.check_passwords.proofs.Distinct.{by-password}
@@ -24,7 +23,7 @@ use Rattle.check_scan.specs.Slots.{Slots}
 use Rattle.check_rows.proofs.Chaining.{slot-passed}
 use Rattle.check_money.proofs.Living.{money-free}
 use Rattle.check_scan.proofs.Listing.{all-free, free-above, next-entry}
-use Rattle.check_money.proofs.Adding.{Added, added-none, added-more, added-all}
+use Rattle.check_money.proofs.Adding.{Added, added-none, added-more, masters-added}
 
 -- the slots above i fit, are in the table, differ, and their masters add up to total, whatever the bytes
 pub record Passed (l w heads next : List ℕ) (i total : ℕ) : Type 0 where
@@ -32,11 +31,6 @@ pub record Passed (l w heads next : List ℕ) (i total : ℕ) : Type 0 where
   pub table : Buckets (passwords l w) heads next i
   pub differ : Above (NoneAbove (SamePassword l w)) i
   pub money : (b : List ℕ) → Added (masterMoney (view b l w)) 4294967295 512 i total
-
-masters-are : (b l w : List ℕ) (k total : ℕ) → k ≤ 0
-    → Added (masterMoney (view b l w)) 4294967295 512 k total → MastersAre b l w total
-unfolding allMasters ofMaster
-masters-are b l w k total z a = added-all _ _ _ _ _ z a
 
 module _ (l w : List ℕ) where
   pub passed-none : (heads next : List ℕ) → Buckets (passwords l w) heads next 512 → Passed l w heads next 512 0
@@ -78,7 +72,7 @@ module _ (l w : List ℕ) where
       fit = all-used 512 Layout.OWNER _ _ _ z (p .fit);
       passwords = passwords-unique l w (all-differ (by-password l w) k z (p .differ));
     });
-    money = λ e b. masters-are b l w k total z (p .money b);
+    money = λ e b. masters-added b l w k total z (p .money b);
   }
 
   refusal : (AllCaps l w → ⊥) → Scanned l w false 0

@@ -4,6 +4,7 @@ use mathlib.Core.Path.{_≡_}
 use mathlib.Core.Logic.{_≢_}
 use mathlib.Core.List.{List}
 use lib.ListN.{getD, length}
+use Rattle.rules.specs.Limit as Limit
 use Rattle.layout.specs.Rows.{ownerOf}
 
 -- slot i is one of the entries k to n - 1
@@ -15,8 +16,8 @@ pub record Entry (list : List ℕ) (k n i : ℕ) : Type 0 where
 
 -- the entries k to n - 1 are the living slots above j and up to p, in falling order
 pub record Slots (l list : List ℕ) (k n j p : ℕ) : Type 0 where
-  pub size : length list ≡ 513
-  pub room : n + j ≤ 512
+  pub size : length list ≡ Limit.caps + 1
+  pub room : n + j ≤ Limit.caps
   pub cover : (i : ℕ) → j < i → i ≤ p → ownerOf l i ≢ 0 → Entry list k n i
   pub falls : (m q : ℕ) → k ≤ m → m < q → q < n → getD list q 0 < getD list m 0
   pub low : (m : ℕ) → k ≤ m → m < n → j < getD list m 0

@@ -1,4 +1,4 @@
--- All capabilities: each is in the free chain or in one object's tree.
+-- All capabilities: each is in the free list or in one object's tree.
 use mathlib.Core.Path.{_≡_, refl, ap}
 use mathlib.Core.Logic.{_≢_}
 use mathlib.Core.Bool.{Bool}

@@ -12,16 +12,20 @@ use layout::NEXT_CAP;
 use layout::OWNER;
 use layout::PARENT;
 use layout::PREV_CAP;
+use values::limit::MAX_CAPS;
+
+// The last slot, as a link.
+const LAST: u16 = MAX_CAPS as u16;
 
 // Record j is one of object o, below `parent` and after `prev`.
-pub fn agrees(links: &[u16], o: u16, j: u16, parent: u16, prev: u16) -> bool
+fn agrees(links: &[u16], o: u16, j: u16, parent: u16, prev: u16) -> bool
     requires { ⌜ length (now links) ≡ Layout.LINKS ⌝ }
     ensures { λ r. ⌜ Decides (AgreeIn (now (links .entry)) o parent prev j) r ⌝ }
 {
     if j == 0 {
         return false;
     }
-    if 512 < j {
+    if LAST < j {
         return false;
     }
     let i = j as usize;
@@ -38,7 +42,14 @@ pub fn agrees(links: &[u16], o: u16, j: u16, parent: u16, prev: u16) -> bool
 }
 
 // It is sound: it agrees, and so does all that is below it.
-pub fn check_record(links: &[u16], seen: &mut [u8], o: u16, j: u16, parent: u16, prev: u16) -> bool
+pub(crate) fn check_record(
+    links: &[u16],
+    seen: &mut [u8],
+    o: u16,
+    j: u16,
+    parent: u16,
+    prev: u16,
+) -> bool
     requires { ⌜ Checkable (now links) (now seen) ⌝ }
     ensures { λ r. ⌜ Marking (recordAt (now (links .entry)) o parent prev j)
         (now (seen .entry)) (now (seen .exit)) r ⌝ }
@@ -62,14 +73,7 @@ pub fn check_record(links: &[u16], seen: &mut [u8], o: u16, j: u16, parent: u16,
 }
 
 // The records from head on are sound, below `parent`, and the first is after `prev`.
-pub fn check_chain(
-    links: &[u16],
-    seen: &mut [u8],
-    o: u16,
-    head: u16,
-    parent: u16,
-    prev: u16,
-) -> bool
+fn check_chain(links: &[u16], seen: &mut [u8], o: u16, head: u16, parent: u16, prev: u16) -> bool
     requires { ⌜ Checkable (now links) (now seen) ⌝ }
     ensures { λ r. ⌜ Marking (childrenFrom (now (links .entry)) o parent prev head)
         (now (seen .entry)) (now (seen .exit)) r ⌝ }

@@ -6,10 +6,10 @@ use Rattle.call_steps.specs.declared.request.Request.{Request}
 use Rattle.call_steps.specs.declared.request.Reply.{Reply}
 use Rattle.kernel_step.specs.Slices.{Slices}
 use Rattle.kernel_call.specs.Calls.{Calls}
-use Rattle.exports.specs.Numbers.{requestOf, numbersOf, Fitting, Kept, Exported}
+use Rattle.exports.specs.Numbers.{requestOf, numbersOf, Fitting, Unanswered, Exported}
 
 pub kept-by : {request text : List ℕ} {code : ℕ} {reply reply′ : List ℕ} {was is : Slices}
-    → (Fitting request reply → ⊥) → Kept code reply reply′ was is → Exported request text code reply reply′ was is
+    → (Fitting request reply → ⊥) → Unanswered code reply reply′ was is → Exported request text code reply reply′ was is
 kept-by bad k = record { made = λ f. absurd (bad f); kept = λ _. k }
 
 pub made-by : {q : Request} {request text : List ℕ} {reply reply′ : List ℕ} {r : Reply} {was is : Slices}

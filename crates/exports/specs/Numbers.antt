@@ -3,10 +3,19 @@ use Prim.Native.Nat.{ℕ}
 use mathlib.Core.Path.{_≡_}
 use mathlib.Core.List.{List, [], _∷_}
 use lib.ListN.{length, getD}
+use Rattle.rules.specs.Code as Code
+use Rattle.layout.specs.WellFormed.{WellFormed}
 use Rattle.call_steps.specs.declared.request.Request.{Request}
 use Rattle.call_steps.specs.declared.request.Reply.{Reply}
 use Rattle.kernel_step.specs.Slices.{Slices}
 use Rattle.kernel_call.specs.Calls.{Calls}
+
+-- how many numbers a request and a reply have
+abbrev pub requestLength : ℕ
+requestLength = 19
+
+abbrev pub replyLength : ℕ
+replyLength = 9
 
 -- the number, the caller, the capability presented, the name, size, flag, rights, the password drawn, the range, the
 -- sum, the lock
@@ -42,25 +51,33 @@ numbersOf r =
     ∷ r .count
     ∷ []
 
--- slices of these lengths
-pub record Fitting (request reply : List ℕ) : Type 0 where
-  pub asks : length request ≡ 19
-  pub tells : length reply ≡ 9
+-- their lengths are these
+pub record Lengths (request reply : ℕ) : Type 0 where
+  pub asks : request ≡ requestLength
+  pub tells : reply ≡ replyLength
+
+abbrev pub Fitting : List ℕ → List ℕ → Type 0
+Fitting request reply = Lengths (length request) (length reply)
 
 -- a call is made, and its reply written
-pub record Made (request text : List ℕ) (code : ℕ) (reply′ : List ℕ) (was is : Slices) : Type 0 where
+pub record Answered (request text : List ℕ) (code : ℕ) (reply′ : List ℕ) (was is : Slices) : Type 0 where
   pub reply : Reply
   pub call : Calls (requestOf request) text reply was is
   pub numbers : reply′ ≡ numbersOf reply
   pub code-is : code ≡ reply .code
 
+-- the answer where they have other lengths, in 01's order: "1 the store is not well formed; 2 .. an argument out of range"
+pub record Unfit (b l w : List ℕ) (code : ℕ) : Type 0 where
+  pub unsound : (WellFormed b l w → ⊥) → code ≡ Code.illFormed
+  pub sound : WellFormed b l w → code ≡ Code.outOfRange
+
 -- nothing is written
-pub record Kept (code : ℕ) (reply reply′ : List ℕ) (was is : Slices) : Type 0 where
-  pub code-is : code ≡ 2
+pub record Unanswered (code : ℕ) (reply reply′ : List ℕ) (was is : Slices) : Type 0 where
+  pub code-is : Unfit (was .bytes) (was .links) (was .words) code
   pub reply-is : reply′ ≡ reply
   pub slices-are : is ≡ was
 
 -- code is what is returned, reply′ and is are the slices at exit
 pub record Exported (request text : List ℕ) (code : ℕ) (reply reply′ : List ℕ) (was is : Slices) : Type 0 where
-  pub made : Fitting request reply → Made request text code reply′ was is
-  pub kept : (Fitting request reply → ⊥) → Kept code reply reply′ was is
+  pub made : Fitting request reply → Answered request text code reply′ was is
+  pub kept : (Fitting request reply → ⊥) → Unanswered code reply reply′ was is

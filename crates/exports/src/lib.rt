@@ -7,12 +7,19 @@ ghost use Rattle.values.specs.Words.{passwordOf};
 ghost use lib.ListN.{length};
 ghost use Rattle.kernel_fresh.specs.Fresh.{Fresh};
 ghost use Rattle.kernel_step.specs.Slices.{slices};
-ghost use Rattle.exports.specs.Numbers.{requestOf, numbersOf, Exported};
+ghost use Rattle.exports.specs.Numbers.{requestLength, replyLength, Lengths, requestOf, numbersOf, Unfit, Exported};
 use call_steps::request::Capability;
 use call_steps::request::Name;
 use call_steps::request::Reply;
 use call_steps::request::Request;
+use values::code::ILL_FORMED;
+use values::code::OUT_OF_RANGE;
 use values::window::Window;
+
+// How many numbers a request and a reply have.
+const REQUEST: usize = 19;
+
+const REPLY: usize = 9;
 
 // Whether the store is well formed.
 #[no_mangle]
@@ -40,7 +47,7 @@ pub extern "C" fn store_fresh(
 
 // The 19 numbers of a request.
 fn request_of(numbers: &[u32]) -> Request
-    requires { ⌜ length (now numbers) ≡ 19 ⌝ }
+    requires { ⌜ length (now numbers) ≡ requestLength ⌝ }
     ensures { λ r. ⌜ r ≡ requestOf (now (numbers .entry)) ⌝ }
 {
     Request {
@@ -75,7 +82,7 @@ fn request_of(numbers: &[u32]) -> Request
 
 // The 9 numbers of a reply.
 fn put_reply(r: Reply, numbers: &mut [u32])
-    requires { ⌜ length (now numbers) ≡ 9 ⌝ }
+    requires { ⌜ length (now numbers) ≡ replyLength ⌝ }
     ensures { λ _. ⌜ now (numbers .exit) ≡ numbersOf r ⌝ }
 {
     let capability = r.capability;
@@ -91,7 +98,28 @@ fn put_reply(r: Reply, numbers: &mut [u32])
     numbers[8] = r.count;
 }
 
-// Makes a call: 19 numbers of a request, 9 of the reply. Where either slice has another length, 2, and nothing is written.
+// A request and a reply have these lengths.
+fn fits(request: usize, reply: usize) -> bool
+    ensures { λ r. ⌜ Decides (Lengths request reply) r ⌝ }
+{
+    if request == REQUEST {
+        return reply == REPLY;
+    }
+    false
+}
+
+// The answer where they have not: the store is looked at first.
+fn unfit(bytes: &[u8], links: &[u16], words: &[u32]) -> u32
+    ensures { λ r. ⌜ Unfit (now (bytes .entry)) (now (links .entry)) (now (words .entry)) r ⌝ }
+{
+    if kernel_check::check(bytes, links, words) {
+        return OUT_OF_RANGE;
+    }
+    ILL_FORMED
+}
+
+// Makes a call: 19 numbers of a request, 9 of the reply. Where either slice has another length, nothing is written, and
+// it is 1 on a store that is not well formed, else 2.
 #[no_mangle]
 pub extern "C" fn store_call(
     bytes: &mut [u8],
@@ -107,28 +135,19 @@ pub extern "C" fn store_call(
         (slices (now (bytes .entry)) (now (links .entry)) (now (words .entry)) (now (buffer .entry)) (now (scratch .entry)))
         (slices (now (bytes .exit)) (now (links .exit)) (now (words .exit)) (now (buffer .exit)) (now (scratch .exit))) ⌝ }
 {
-    if request.len() != 19 {
-        return 2;
+    if fits(request.len(), reply.len()) {
+        let asked = request_of(request);
+        let answer = kernel_call::call(bytes, links, words, text, buffer, scratch, asked);
+        put_reply(answer, reply);
+        return answer.code;
     }
-    if reply.len() != 9 {
-        return 2;
-    }
-    let r = kernel_call::call(
-        bytes,
-        links,
-        words,
-        text,
-        buffer,
-        scratch,
-        request_of(request),
-    );
-    put_reply(r, reply);
-    r.code
+    unfit(bytes, links, words)
 }
 
-// The same on a store that its caller has found well formed, which is not checked again.
+// The same on a store that its caller has found well formed, which is not checked again. C cannot state that by a type, and
+// nothing tests it: on any other store this function may do anything, reading and writing outside the slices included.
 #[no_mangle]
-pub extern "C" fn store_step(
+pub extern "C" fn store_step_unchecked(
     bytes: &mut [u8],
     links: &mut [u16],
     words: &mut [u32],
@@ -143,21 +162,11 @@ pub extern "C" fn store_step(
         (slices (now (bytes .entry)) (now (links .entry)) (now (words .entry)) (now (buffer .entry)) (now (scratch .entry)))
         (slices (now (bytes .exit)) (now (links .exit)) (now (words .exit)) (now (buffer .exit)) (now (scratch .exit))) ⌝ }
 {
-    if request.len() != 19 {
-        return 2;
+    if fits(request.len(), reply.len()) {
+        let req = request_of(request);
+        let r = kernel_step::step(bytes, links, words, text, buffer, scratch, req);
+        put_reply(r, reply);
+        return r.code;
     }
-    if reply.len() != 9 {
-        return 2;
-    }
-    let r = kernel_step::step(
-        bytes,
-        links,
-        words,
-        text,
-        buffer,
-        scratch,
-        request_of(request),
-    );
-    put_reply(r, reply);
-    r.code
+    OUT_OF_RANGE
 }

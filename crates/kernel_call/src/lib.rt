@@ -5,6 +5,7 @@ use call_steps::request::Reply;
 use call_steps::request::Request;
 use kernel_check::check;
 use kernel_step::step;
+use values::code::ILL_FORMED;
 
 // Any call on any store; `text` are write's data or send's message.
 pub fn call(
@@ -23,5 +24,5 @@ pub fn call(
     if check(bytes, links, words) {
         return step(bytes, links, words, text, buffer, scratch, req);
     }
-    Reply::refused(1)
+    Reply::refused(ILL_FORMED)
 }

@@ -7,7 +7,7 @@ use check_objects::objects_fit;
 use check_scan::scan_caps;
 
 // All of it.
-pub fn check_fields(bytes: &[u8], links: &[u16], words: &[u32]) -> bool
+pub(crate) fn check_fields(bytes: &[u8], links: &[u16], words: &[u32]) -> bool
     requires { ⌜ Sized (now bytes) (now links) (now words) ⌝ }
     ensures { λ r. ⌜ Decides (Fields (now (bytes .entry)) (now (links .entry)) (now (words .entry))) r ⌝ }
 {

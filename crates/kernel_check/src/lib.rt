@@ -7,7 +7,7 @@ use layout::BYTES;
 use layout::LINKS;
 use layout::WORDS;
 
-pub mod fields;
+mod fields;
 
 // True exactly when the store is well formed. Nothing is written.
 pub fn check(bytes: &[u8], links: &[u16], words: &[u32]) -> bool

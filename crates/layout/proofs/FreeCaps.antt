@@ -1,4 +1,4 @@
--- The free chain of capabilities: what is known of its first record and of those after it, and that the chain is empty
+-- The free list of capabilities: what is known of its first record and of those after it, and that the chain is empty
 -- exactly when 512 capabilities live.
 use Prim.Native.Nat.{ℕ, zero, suc, _+_, _≤_, _<_}
 use mathlib.Core.Path.{_≡_, refl, ap}

@@ -92,6 +92,10 @@ chain-head n next head (j ∷ xs) c h = rw (c .0) (xs, refl, c .1, c .2, c .3)
 
 -- ---- trees
 
+-- a record that stands in a forest is none that does not
+pub apart-in : (k n : ℕ) (F : Forest) → 1 ≤ count k F → count n F ≡ 0 → k ≢ n
+apart-in k n F c z e = omega (arith, c, z, ap (λ i. count i F) e)
+
 -- a record that stands in a forest is one of 1 to 512, of its object
 pub sound-low : (owner above first next back : ℕ → ℕ) (o p q h : ℕ) (F : Forest) (k : ℕ)
     → Sound owner above first next back o p q h F → 1 ≤ count k F → 1 ≤ k

@@ -127,7 +127,7 @@ module _ (l : List ℕ) (c : Caps l) where
       go (yes z) = absurd (omega (arith, n, ap (λ x. count k x) (c .trees o low high .dead z)))
       go (no alive) = in-tree l o low high (c .tree o) (c .trees o low high) alive k n
 
-  -- a record that is not in the free chain is one
+  -- a record that is not in the free list is one
   pub cap-held : (k : ℕ) → 1 ≤ k → k ≤ 512 → times k (c .free) ≡ 0 → (o : ℕ) × CapShaped l o k
   cap-held k low high z =
       let t = sum-some 64 (λ o. count k (c .tree o)) (omega (arith, c .once k low high)) in

@@ -4,6 +4,7 @@ use mathlib.Core.Path.{_≡_}
 use mathlib.Core.Logic.{_≢_}
 use mathlib.Core.List.{List}
 use lib.Bits.{bitAnd}
+use Rattle.rules.specs.Limit as Limit
 use Rattle.rules.specs.Store.{moneyIn}
 use Rattle.layout.specs.Rows.{volumeOf, flagOf, suspendedOf, waitingOf, terminatedOf, countOf, lengthOf}
 use Rattle.layout.specs.Rows.{masterOf, serialOf, sizeOf, ownerOf, parentOf, rightsOf}
@@ -14,19 +15,19 @@ pub record ProcessFits (b w : List ℕ) (o : ℕ) : Type 0 where
   pub suspended : suspendedOf b o ≤ 1
   pub waiting : waitingOf b o ≤ 1
   pub terminated : terminatedOf b o ≤ 1
-  pub lock : lock1Of w o < 2147483648
-  pub count : countOf b o ≤ 4
-  pub length : (m : ℕ) → m < countOf b o → lengthOf b (o * 4 + m) ≤ 16
+  pub lock : lock1Of w o < Limit.top
+  pub count : countOf b o ≤ Limit.box
+  pub length : (m : ℕ) → m < countOf b o → lengthOf b (o * Limit.box + m) ≤ Limit.message
 
 pub record ObjectFits (b l w : List ℕ) (o : ℕ) : Type 0 where
-  pub volume : volumeOf b o ≤ 3
-  pub size : sizeOf l o ≤ 8192
+  pub volume : volumeOf b o ≤ Limit.volume
+  pub size : sizeOf l o ≤ Limit.size
   pub flag : flagOf b o ≤ 1
   pub process : flagOf b o ≢ 0 → ProcessFits b w o
 
 -- the master of an object has its whole window; a child's rights and window lie in its parent's
 pub record CapFits (l w : List ℕ) (i : ℕ) : Type 0 where
-  pub rights : rightsOf l i ≤ 8191
+  pub rights : rightsOf l i ≤ Limit.rights
   pub ordered : startOf w i ≤ endOf w i
   pub whole : parentOf l i ≡ 0 → (startOf w i ≡ 0) × (endOf w i ≡ sizeOf l (ownerOf l i))
   pub within : parentOf l i ≢ 0
@@ -49,7 +50,7 @@ PasswordsUnique l w = (i j : ℕ) → ownerOf l i ≢ 0 → ownerOf l j ≢ 0
     → ownerOf l i ≡ ownerOf l j → p1Of w i ≡ p1Of w j → i ≡ j
 
 abbrev pub TotalFits : List ℕ → List ℕ → List ℕ → Type 0
-TotalFits b l w = moneyIn (view b l w) ≤ 4294967295
+TotalFits b l w = moneyIn (view b l w) ≤ Limit.word
 
 pub record Fields (b l w : List ℕ) : Type 0 where
   pub objects : ObjectsFit b l w

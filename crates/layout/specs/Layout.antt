@@ -3,6 +3,10 @@
 -- capabilities and blocks 1 to 512. Message m, 0 to 3, of object o has slot 4 o + m. docs/LAYOUT.md has the table.
 use Prim.Native.Nat.{ℕ}
 
+-- the last slot of a message
+abbrev pub «MESSAGE_SLOTS» : ℕ
+«MESSAGE_SLOTS» = 259
+
 -- ---- the bytes
 
 -- an object's volume, 0 to 3

@@ -6,6 +6,7 @@ use mathlib.Core.Logic.{_≢_}
 use mathlib.Core.List.{List, [], _∷_}
 use lib.Dec.{eqb}
 use lib.ListN.{getD, length}
+use Rattle.rules.specs.Limit as Limit
 use Rattle.rules.specs.Slots.{one, sumOver}
 use Rattle.rules.specs.Store.{blocks}
 use Rattle.layout.specs.Layout as Layout
@@ -38,7 +39,7 @@ count k (node j children rest) = one (eqb k j) + count k children + count k rest
 -- a record's links agree with its neighbours': j is a capability of object o, below parent and after prev
 pub record Agree (owner above back : ℕ → ℕ) (o parent prev j : ℕ) : Type 0 where
   pub low : 1 ≤ j
-  pub high : j ≤ 512
+  pub high : j ≤ Limit.caps
   pub owner-is : owner j ≡ o
   pub parent-is : above j ≡ parent
   pub prev-is : back j ≡ prev
@@ -57,9 +58,9 @@ Sound owner above first next back o parent prev head (node j children rest) =
 pub record ObjectChains (master next : ℕ → ℕ) (head free-head : ℕ) : Type 0 where
   pub live : List ℕ
   pub free : List ℕ
-  pub live-chain : Chain 64 next head live
-  pub free-chain : Chain 64 next free-head free
-  pub once : (o : ℕ) → 1 ≤ o → o ≤ 64 → times o live + times o free ≡ 1
+  pub live-chain : Chain Limit.objects next head live
+  pub free-chain : Chain Limit.objects next free-head free
+  pub once : (o : ℕ) → 1 ≤ o → o ≤ Limit.objects → times o live + times o free ≡ 1
   pub alive : (o : ℕ) → 1 ≤ times o live → master o ≢ 0
   pub dead : (o : ℕ) → 1 ≤ times o free → master o ≡ 0
 
@@ -72,28 +73,28 @@ pub record HasTree (master owner above first next back : ℕ → ℕ) (o : ℕ) 
       × Sound owner above first next back o 0 0 (master o) F
   pub dead : master o ≡ 0 → F ≡ nil
 
--- each of 1 to 512 is in one object's tree or in the free chain, once; a free one has no object
+-- each of 1 to 512 is in one object's tree or in the free list, once; a free one has no object
 pub record CapTrees (master owner above first next back : ℕ → ℕ) (free-head : ℕ) : Type 0 where
   pub tree : ℕ → Forest
   pub free : List ℕ
-  pub trees : (o : ℕ) → 1 ≤ o → o ≤ 64 → HasTree master owner above first next back o (tree o)
-  pub free-chain : Chain 512 next free-head free
+  pub trees : (o : ℕ) → 1 ≤ o → o ≤ Limit.objects → HasTree master owner above first next back o (tree o)
+  pub free-chain : Chain Limit.caps next free-head free
   pub free-owner : (k : ℕ) → 1 ≤ times k free → owner k ≡ 0
-  pub once : (k : ℕ) → 1 ≤ k → k ≤ 512 → sumOver 64 (λ o. count k (tree o)) + times k free ≡ 1
+  pub once : (k : ℕ) → 1 ≤ k → k ≤ Limit.caps → sumOver Limit.objects (λ o. count k (tree o)) + times k free ≡ 1
 
 -- ---- blocks: a chain of exactly the blocks that its size needs; a free object has none
 
 pub record HasBlocks (master size first next : ℕ → ℕ) (o : ℕ) (xs : List ℕ) : Type 0 where
-  pub live : master o ≢ 0 → Chain 512 next (first o) xs × (length xs ≡ blocks (size o))
+  pub live : master o ≢ 0 → Chain Limit.blocks next (first o) xs × (length xs ≡ blocks (size o))
   pub dead : master o ≡ 0 → xs ≡ []
 
--- each of 1 to 512 is in one object's chain or in the free chain, once
+-- each of 1 to 512 is in one object's chain or in the free list, once
 pub record BlockChains (master size first next : ℕ → ℕ) (free-head : ℕ) : Type 0 where
   pub chain : ℕ → List ℕ
   pub free : List ℕ
-  pub chains : (o : ℕ) → 1 ≤ o → o ≤ 64 → HasBlocks master size first next o (chain o)
-  pub free-chain : Chain 512 next free-head free
-  pub once : (k : ℕ) → 1 ≤ k → k ≤ 512 → sumOver 64 (λ o. times k (chain o)) + times k free ≡ 1
+  pub chains : (o : ℕ) → 1 ≤ o → o ≤ Limit.objects → HasBlocks master size first next o (chain o)
+  pub free-chain : Chain Limit.blocks next free-head free
+  pub once : (k : ℕ) → 1 ≤ k → k ≤ Limit.blocks → sumOver Limit.objects (λ o. times k (chain o)) + times k free ≡ 1
 
 -- ---- the same of the rows of a slice of links
 

@@ -4,6 +4,7 @@ use mathlib.Core.Bool.{Bool, true, false, not, _&&_}
 use mathlib.Core.List.{List, [], _∷_, _++_}
 use lib.Dec.{eqb}
 use lib.ListN.{getD, take, drop}
+use Rattle.rules.specs.Limit as Limit
 use Rattle.rules.specs.Store.{Lockword, Marks, Message, Object, Cap, State}
 use Rattle.rules.specs.Store.{noLockword, noMarks, noObject, noCap, blocks}
 use Rattle.layout.specs.Layout as Layout
@@ -37,7 +38,7 @@ objects master volume serial size flag = onlyWhere (λ o. isSet (master o)) noOb
 -- the bytes of n blocks from block k on
 unfoldable pub gather : ℕ → (ℕ → ℕ) → List ℕ → ℕ → List ℕ
 gather zero next store k = []
-gather (suc n) next store k = take 64 (drop (k * 64) store) ++ gather n next store (next k)
+gather (suc n) next store k = take Limit.block (drop (k * Limit.block) store) ++ gather n next store (next k)
 
 unfoldable pub bytes : (master size first next : ℕ → ℕ) → List ℕ → ℕ → List ℕ
 bytes master size first next store = onlyWhere (λ o. isSet (master o)) []
@@ -63,11 +64,11 @@ marks master flag suspended waiting terminated = onlyWhere (isProcess master fla
 unfoldable pub messages : ℕ → (length sum : ℕ → ℕ) → List ℕ → ℕ → List Message
 messages zero length sum text i = []
 messages (suc n) length sum text i =
-    record { bytes = take (length i) (drop (i * 16) text); sum = sum i } ∷ messages n length sum text (suc i)
+    record { bytes = take (length i) (drop (i * Limit.message) text); sum = sum i } ∷ messages n length sum text (suc i)
 
 unfoldable pub boxes : (master flag count length sum : ℕ → ℕ) → List ℕ → ℕ → List Message
 boxes master flag count length sum text = onlyWhere (isProcess master flag) []
-    (λ o. messages (count o) length sum text (o * 4))
+    (λ o. messages (count o) length sum text (o * Limit.box))
 
 -- ---- capabilities
 

@@ -4,6 +4,7 @@ use mathlib.Core.Path.{_≡_}
 use mathlib.Core.Bool.{true}
 use mathlib.Core.List.{List}
 use lib.ListN.{length, getD}
+use Rattle.rules.specs.Limit as Limit
 use Rattle.rules.specs.Valid.{Valid}
 use Rattle.layout.specs.Layout as Layout
 use Rattle.layout.specs.Rows.{flagOf, suspendedOf, waitingOf, terminatedOf, countOf, lengthOf, masterOf}
@@ -19,7 +20,7 @@ pub record Sized (b l w : List ℕ) : Type 0 where
 pub record Typed (b l w : List ℕ) : Type 0 where
   pub bytes : (i : ℕ) → getD b i 0 ≤ 255
   pub links : (i : ℕ) → getD l i 0 ≤ 65535
-  pub words : (i : ℕ) → getD w i 0 ≤ 4294967295
+  pub words : (i : ℕ) → getD w i 0 ≤ Limit.word
 
 -- flag and marks are 0 or 1, a box has at most 4 messages, a message is 0 to 16 bytes
 pub record Cells (b l : List ℕ) : Type 0 where
@@ -27,9 +28,9 @@ pub record Cells (b l : List ℕ) : Type 0 where
   pub suspended : (o : ℕ) → isProcess (masterOf l) (flagOf b) o ≡ true → suspendedOf b o ≤ 1
   pub waiting : (o : ℕ) → isProcess (masterOf l) (flagOf b) o ≡ true → waitingOf b o ≤ 1
   pub terminated : (o : ℕ) → isProcess (masterOf l) (flagOf b) o ≡ true → terminatedOf b o ≤ 1
-  pub count : (o : ℕ) → isProcess (masterOf l) (flagOf b) o ≡ true → countOf b o ≤ 4
+  pub count : (o : ℕ) → isProcess (masterOf l) (flagOf b) o ≡ true → countOf b o ≤ Limit.box
   pub length : (o m : ℕ) → isProcess (masterOf l) (flagOf b) o ≡ true → m < countOf b o
-      → lengthOf b (o * 4 + m) ≤ 16
+      → lengthOf b (o * Limit.box + m) ≤ Limit.message
 
 pub record WellFormed (b l w : List ℕ) : Type 0 where
   -- each slice has exactly its length in docs/

@@ -1,6 +1,17 @@
 // Where each field stands in the three slices: the only numbers of the layout on this side, as in specs/Layout.antt.
 // A field has a row of cells, one for each slot; the cell of slot 0 is no record's. Objects have slots 1 to 64,
 // capabilities and blocks 1 to 512. Message m, 0 to 3, of object o has slot 4 o + m. docs/LAYOUT.md has the table.
+ghost use mathlib.Core.Path.{_≡_};
+
+// The slot that a link names.
+pub fn slot(link: u16) -> usize
+    ensures { λ r. ⌜ r ≡ link ⌝ }
+{
+    link as usize
+}
+
+// The last slot of a message.
+pub const MESSAGE_SLOTS: usize = 259;
 
 // The bytes.
 pub const VOLUME: usize = 0;

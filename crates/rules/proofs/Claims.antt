@@ -3,7 +3,7 @@ use Prim.Native.Nat.{ℕ, _+_}
 use mathlib.Core.Path.{_≡_, sym, ap, ap₂, _∙_, subst}
 use mathlib.Core.Logic.{_↔_}
 use mathlib.Core.Bool.{true}
-use Rattle.rules.specs.Store.{State, masterOf, descends}
+use Rattle.rules.specs.Store.{State, rootOf, descends}
 use Rattle.rules.specs.Valid.{Lives, Caps, Formed}
 use Rattle.rules.specs.Ledger.{Ledger, leadsBack, summed}
 use Rattle.rules.specs.Demand.{Now, Only, Match, Within, Claims}
@@ -74,7 +74,7 @@ module _ (s : State) (l : Ledger) (G : Formed s) (K : Linking s l) where
   none-from j h z = K .linked .above j h ∙ ap (K .num) z ∙ K .linked .none
 
   tree-match : (i m k r : ℕ) → Match n i k → Match n m r
-      → (masterOf s i ≡ m) ↔ ((l .line r .from ≡ 0) × (leadsBack l k r ≡ true))
+      → (rootOf s i ≡ m) ↔ ((l .line r .from ≡ 0) × (leadsBack l k r ≡ true))
   tree-match i m k r a b =
       let h = match-lives i k a in
       let g = match-lives m r b in
@@ -102,7 +102,7 @@ module _ (s : State) (l : Ledger) (G : Formed s) (K : Linking s l) where
     rooted = λ i t.
         let h = lives s i t in
         record {
-          lives = does-live s (masterOf s i) (master-lives s C i h);
+          lives = does-live s (rootOf s i) (master-lives s C i h);
           parent = master-top s C i h;
           object = sym (master-in s C i h .object);
         };

@@ -7,7 +7,7 @@ use mathlib.Core.List.{List, _∷_}
 use native.Mathlib.Omega.{arith}
 use lib.Bits.{bitAnd, and-self}
 use Rattle.rules.specs.Slots.{lastOf}
-use Rattle.rules.specs.Store.{Cap, State, path, masterOf, descends}
+use Rattle.rules.specs.Store.{Cap, State, path, rootOf, descends}
 use Rattle.rules.specs.Valid.{Lives, ChildIn, Climbs, top, step, Caps}
 use Rattle.rules.proofs.Tests.{by-eq}
 use Rattle.rules.proofs.Bitwise.{and-assoc}
@@ -109,33 +109,33 @@ module _ (s : State) (C : Caps (s .object) (s .cap)) where
 
   -- ---- the master that the path ends at
 
-  pub master-same : (i k : ℕ) → Lives (s .cap) i → descends s i k ≡ true → masterOf s k ≡ masterOf s i
-  unfolding masterOf
+  pub master-same : (i k : ℕ) → Lives (s .cap) i → descends s i k ≡ true → rootOf s k ≡ rootOf s i
+  unfolding rootOf
   master-same i k h e =
       last-one (climbs-path i h) (descends-one i k e) (climbs-path k (descends-lives i k h e))
 
-  pub master-above : (i : ℕ) → Lives (s .cap) i → descends s i (masterOf s i) ≡ true
-  unfolding masterOf
+  pub master-above : (i : ℕ) → Lives (s .cap) i → descends s i (rootOf s i) ≡ true
+  unfolding rootOf
   master-above i h = one-descends i (lastOf (path s i) 0) (last-top (climbs-path i h) (not-zero i h) .0)
 
-  pub master-top : (i : ℕ) → Lives (s .cap) i → s .cap (masterOf s i) .parent ≡ 0
-  unfolding masterOf
+  pub master-top : (i : ℕ) → Lives (s .cap) i → s .cap (rootOf s i) .parent ≡ 0
+  unfolding rootOf
   master-top i h = last-top (climbs-path i h) (not-zero i h) .1
 
-  pub master-lives : (i : ℕ) → Lives (s .cap) i → Lives (s .cap) (masterOf s i)
-  master-lives i h = descends-lives i (masterOf s i) h (master-above i h)
+  pub master-lives : (i : ℕ) → Lives (s .cap) i → Lives (s .cap) (rootOf s i)
+  master-lives i h = descends-lives i (rootOf s i) h (master-above i h)
 
-  pub master-in : (i : ℕ) → Lives (s .cap) i → ChildIn (s .cap i) (s .cap (masterOf s i))
-  master-in i h = descends-in i (masterOf s i) h (master-above i h)
+  pub master-in : (i : ℕ) → Lives (s .cap) i → ChildIn (s .cap i) (s .cap (rootOf s i))
+  master-in i h = descends-in i (rootOf s i) h (master-above i h)
 
   -- it is the only one without a parent that i descends from
-  pub master-only : (i k : ℕ) → Lives (s .cap) i → descends s i k ≡ true → s .cap k .parent ≡ 0 → k ≡ masterOf s i
+  pub master-only : (i k : ℕ) → Lives (s .cap) i → descends s i k ≡ true → s .cap k .parent ≡ 0 → k ≡ rootOf s i
   master-only i k h e z =
       let g = descends-lives i k h e in
-      sym (descends-top k (masterOf s k) g z (master-above k g)) ∙ master-same i k h e
+      sym (descends-top k (rootOf s k) g z (master-above k g)) ∙ master-same i k h e
 
   -- and the only master of i's object
   pub master-unique : (i k : ℕ) → Lives (s .cap) i → Lives (s .cap) k → s .cap k .parent ≡ 0
-      → s .cap i .object ≡ s .cap k .object → masterOf s i ≡ k
-  master-unique i k h g z e = C .masters (masterOf s i) k (master-lives i h) g
+      → s .cap i .object ≡ s .cap k .object → rootOf s i ≡ k
+  master-unique i k h g z e = C .masters (rootOf s i) k (master-lives i h) g
       (sym (master-in i h .object) ∙ e) (master-top i h) z

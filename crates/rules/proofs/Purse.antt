@@ -8,7 +8,7 @@ use native.Mathlib.Omega.{arith}
 use lib.Dec.{ltb}
 use borrow.Author.Tests.{ltb-false}
 use Rattle.rules.specs.Slots.{at, any}
-use Rattle.rules.specs.Store.{State, path, masterOf, descends, allCash, allMasters, allBoxes, moneyIn}
+use Rattle.rules.specs.Store.{State, path, rootOf, descends, allCash, allMasters, allBoxes, moneyIn}
 use Rattle.rules.specs.Valid.{Lives, Caps, Formed}
 use Rattle.rules.specs.Rights.{withdraw, deposit, presents}
 use Rattle.rules.specs.Call.{Call, done}
@@ -49,10 +49,10 @@ module _ (s : State) (G : Formed s) (k : ℕ) (h : Lives (s .cap) k) (f : ℕ �
   })
 
   -- of the masters' moneywords the climb changes that of the tree's master alone
-  masters-climb : allMasters (onClimb s k f) + s .money (masterOf s k) ≡ allMasters s + f (s .money (masterOf s k))
+  masters-climb : allMasters (onClimb s k f) + s .money (rootOf s k) ≡ allMasters s + f (s .money (rootOf s k))
   unfolding onClimb withMoney
   masters-climb =
-      let m : ℕ = masterOf s k in
+      let m : ℕ = rootOf s k in
       let z = master-top s (G .caps) k h in
       let w = G .caps .live m (master-lives s (G .caps) k h) in
       masters-but s (onClimb s k f) m (w .some) (w .low)
@@ -63,7 +63,7 @@ module _ (s : State) (G : Formed s) (k : ℕ) (h : Lives (s .cap) k) (f : ℕ �
       (λ e. same refl (sym (off-climb j e)))) z z
       ∙ ap (λ x. allMasters s + x) (on-climb m (master-above s (G .caps) k h))
 
-  total-climb : moneyIn (onClimb s k f) + s .money (masterOf s k) ≡ moneyIn s + f (s .money (masterOf s k))
+  total-climb : moneyIn (onClimb s k f) + s .money (rootOf s k) ≡ moneyIn s + f (s .money (rootOf s k))
   unfolding onClimb withMoney moneyIn allCash allBoxes
   total-climb = omega (arith, masters-climb)
 
@@ -92,7 +92,7 @@ module _ (s : State) (G : Formed s) (c : Call) (me k : ℕ) where
       let h = r .shown refl .lives in
       let f : ℕ → ℕ = λ m. m - c .sum in
       let S = sound-climb s G k h f (λ j e. omega (arith, G .money j)) in
-      let b = enough r (masterOf s k) (master-above s (G .caps) k h) in
+      let b = enough r (rootOf s k) (master-above s (G .caps) k h) in
       record {
         formed = formed-of (sound-earn S me (r .who) (c .sum)) (G .master);
         total = omega (arith, total-earn S me (r .who) (c .sum), total-climb s G k h f);

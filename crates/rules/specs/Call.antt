@@ -1,6 +1,7 @@
 -- A call as it comes, the answer it gets, and what 01 leaves open: "which free one is taken".
 use Prim.Native.Nat.{ℕ}
 use mathlib.Core.List.{List, []}
+use Rattle.rules.specs.Code as Code
 use Rattle.rules.specs.Store.{Name, Password, Window, Lockword, State, noName, noPassword}
 
 -- a capability as it is presented and handed back: volume, serial, p1, p2
@@ -61,7 +62,7 @@ unfoldable pub code : ℕ → Answer
 code n = record { code = n; capability = noCapability; length = 0; moneyword = 0; sum = 0; bytes = [] }
 
 unfoldable pub done : State → Outcome
-done s = record { answer = code 0; after = s }
+done s = record { answer = code Code.done; after = s }
 
 -- a new capability, as drawn
 unfoldable pub handsBack : Name → Password → State → Outcome

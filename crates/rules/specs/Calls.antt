@@ -6,6 +6,8 @@ use mathlib.Core.List.{List, [], _∷_, _++_}
 use lib.Dec.{leb, ltb, eqb}
 use lib.ListN.{length, take, drop}
 use lib.Bits.{bitXor}
+use Rattle.rules.specs.Limit as Limit
+use Rattle.rules.specs.Code as Code
 use Rattle.rules.specs.Slots.{at, some, any}
 use Rattle.rules.specs.Store.{Window, Message, Object, Cap, State, path, descends, objectNamed}
 use Rattle.rules.specs.Store.{blocks, objectsLive, capsLive, freeBlocks, sumsIn}
@@ -38,7 +40,7 @@ module _ (s : State) (c : Call) (me k : ℕ) where
 
   -- p1 is taken in the object
   unfoldable pub p1Taken : Bool
-  p1Taken = some 512 (λ i. eqb (s .cap i .object) target && eqb (s .cap i .password .p1) (c .drawn .p1))
+  p1Taken = some Limit.caps (λ i. eqb (s .cap i .object) target && eqb (s .cap i .password .p1) (c .drawn .p1))
 
   -- 8: not a process
   abbrev pub notProcess : Bool
@@ -52,8 +54,8 @@ module _ (s : State) (c : Call) (me k : ℕ) where
 
   unfoldable pub makeObjRefuses : List Refusal
   makeObjRefuses =
-      12 when not (eqb (objectNamed s (c .name)) 0)
-      ∷ 13 when (leb 64 (objectsLive s) || leb 512 (capsLive s) || ltb (freeBlocks s) (blocks (c .size)))
+      Code.taken when not (eqb (objectNamed s (c .name)) 0)
+      ∷ Code.noSpace when (leb Limit.objects (objectsLive s) || leb Limit.caps (capsLive s) || ltb (freeBlocks s) (blocks (c .size)))
       ∷ []
 
   unfoldable pub madeObject : Object
@@ -76,7 +78,7 @@ module _ (s : State) (c : Call) (me k : ℕ) where
   -- ---- read, write: 7 the range is not inside the window. Offsets count from the object's start.
 
   unfoldable pub transferRefuses : List Refusal
-  transferRefuses = 7 when not (liesIn (c .range) (s .cap k .window)) ∷ []
+  transferRefuses = Code.outsideWindow when not (liesIn (c .range) (s .cap k .window)) ∷ []
 
   unfoldable pub readDoes : Outcome
   readDoes = handsOver 0 (take (c .range .end - c .range .start) (drop (c .range .start) (s .bytes target))) s
@@ -95,7 +97,7 @@ module _ (s : State) (c : Call) (me k : ℕ) where
   -- ---- derive_cap: 12 p1 is taken in the object; 13 512 capabilities live
 
   unfoldable pub deriveCapRefuses : List Refusal
-  deriveCapRefuses = 12 when p1Taken ∷ 13 when leb 512 (capsLive s) ∷ []
+  deriveCapRefuses = Code.taken when p1Taken ∷ Code.noSpace when leb Limit.caps (capsLive s) ∷ []
 
   -- the rights in both sets, and each end of the range moved to the nearest point of the parent's window
   unfoldable pub child : Cap
@@ -129,7 +131,7 @@ module _ (s : State) (c : Call) (me k : ℕ) where
   -- ---- rename_obj: 11 not a master; 12 p1 is taken in the object, the old master's own included
 
   unfoldable pub renameObjRefuses : List Refusal
-  renameObjRefuses = 11 when not (eqb (s .cap k .parent) 0) ∷ 12 when p1Taken ∷ []
+  renameObjRefuses = Code.notMaster when not (eqb (s .cap k .parent) 0) ∷ Code.taken when p1Taken ∷ []
 
   -- all capabilities end
   unfoldable pub emptied : State
@@ -152,7 +154,7 @@ module _ (s : State) (c : Call) (me k : ℕ) where
   -- ---- withdraw: 9 some moneyword from the capability up to its master is below the sum
 
   unfoldable pub withdrawRefuses : List Refusal
-  withdrawRefuses = 9 when any (λ i. ltb (s .money i) (c .sum)) (path s k) ∷ []
+  withdrawRefuses = Code.tooLittle when any (λ i. ltb (s .money i) (c .sum)) (path s k) ∷ []
 
   -- the climb takes the sum from each and adds it once to the caller's cash
   unfoldable pub withdrawDoes : Outcome
@@ -161,7 +163,10 @@ module _ (s : State) (c : Call) (me k : ℕ) where
   -- ---- deposit: 9 the caller's cash is below the sum; 10 a moneyword on the climb would pass 4,294,967,295
 
   unfoldable pub depositRefuses : List Refusal
-  depositRefuses = 9 when cashBelow ∷ 10 when any (λ i. ltb 4294967295 (s .money i + c .sum)) (path s k) ∷ []
+  depositRefuses =
+      Code.tooLittle when cashBelow
+      ∷ Code.overflows when any (λ i. ltb Limit.word (s .money i + c .sum)) (path s k)
+      ∷ []
 
   -- each on the climb grows
   unfoldable pub depositDoes : Outcome
@@ -170,7 +175,7 @@ module _ (s : State) (c : Call) (me k : ℕ) where
   -- ---- suspend, resume: 8 not a process. Sets or clears the mark. apply_lock: 8. XORs the target's lockword.
 
   unfoldable pub processRefuses : List Refusal
-  processRefuses = 8 when notProcess ∷ []
+  processRefuses = Code.notProcess when notProcess ∷ []
 
   unfoldable pub suspendDoes : Outcome
   suspendDoes = done (setSuspended s target true)
@@ -187,7 +192,11 @@ module _ (s : State) (c : Call) (me k : ℕ) where
   -- ---- send: 8; 9 the caller's cash is below the sum; 14 four messages in the box
 
   unfoldable pub sendRefuses : List Refusal
-  sendRefuses = 8 when notProcess ∷ 9 when cashBelow ∷ 14 when leb 4 (length (s .box target)) ∷ []
+  sendRefuses =
+      Code.notProcess when notProcess
+      ∷ Code.tooLittle when cashBelow
+      ∷ Code.boxFull when leb Limit.box (length (s .box target))
+      ∷ []
 
   unfoldable pub message : Message
   message = record { bytes = c .bytes; sum = c .sum }
@@ -199,7 +208,7 @@ module _ (s : State) (c : Call) (me k : ℕ) where
   -- ---- receive: 15 the box is empty
 
   unfoldable pub receiveRefuses : List Refusal
-  receiveRefuses = 15 when eqb (length (s .box me)) 0 ∷ []
+  receiveRefuses = Code.boxEmpty when eqb (length (s .box me)) 0 ∷ []
 
   -- takes the oldest; its sum joins the cash
   unfoldable pub receiveDoes : List Message → Outcome
@@ -215,9 +224,9 @@ module _ (s : State) (c : Call) (me k : ℕ) where
 
   unfoldable pub reviveRefuses : List Refusal
   reviveRefuses =
-      8 when notProcess
-      ∷ 16 when (not (s .marks target .terminated) || eqb (c .sum) 0)
-      ∷ 9 when cashBelow
+      Code.notProcess when notProcess
+      ∷ Code.notRevivable when (not (s .marks target .terminated) || eqb (c .sum) 0)
+      ∷ Code.tooLittle when cashBelow
       ∷ []
 
   -- the terminated mark clears and the sum moves from the caller's cash to the target's

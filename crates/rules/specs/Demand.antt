@@ -5,7 +5,8 @@ use mathlib.Core.Logic.{_↔_}
 use mathlib.Core.Bool.{Bool, true, false, not}
 use mathlib.Core.List.{List, [], _∷_, _++_}
 use lib.Bits.{bitAnd}
-use Rattle.rules.specs.Store.{Password, State, capLives, masterOf, fresh}
+use Rattle.rules.specs.Limit as Limit
+use Rattle.rules.specs.Store.{Password, State, capLives, rootOf, fresh}
 use Rattle.rules.specs.Valid.{LiesIn}
 use Rattle.rules.specs.Rights.{makeObj, deriveCap, deleteCap, renameObj, op}
 use Rattle.rules.specs.Call.{Call, Choice}
@@ -19,27 +20,27 @@ use Rattle.rules.specs.Ledger.{Ledger, leadsBack, summed, found, book, o
 
 -- its numbers are 32-bit
 pub record Words (c : Call) : Type 0 where
-  pub presented1 : c .presented .password .p1 ≤ 4294967295
-  pub presented2 : c .presented .password .p2 ≤ 4294967295
-  pub drawn1 : c .drawn .p1 ≤ 4294967295
-  pub drawn2 : c .drawn .p2 ≤ 4294967295
-  pub start : c .range .start ≤ 4294967295
-  pub end : c .range .end ≤ 4294967295
-  pub sum : c .sum ≤ 4294967295
-  pub lock1 : c .lock .first ≤ 4294967295
-  pub lock2 : c .lock .second ≤ 4294967295
+  pub presented1 : c .presented .password .p1 ≤ Limit.word
+  pub presented2 : c .presented .password .p2 ≤ Limit.word
+  pub drawn1 : c .drawn .p1 ≤ Limit.word
+  pub drawn2 : c .drawn .p2 ≤ Limit.word
+  pub start : c .range .start ≤ Limit.word
+  pub end : c .range .end ≤ Limit.word
+  pub sum : c .sum ≤ Limit.word
+  pub lock1 : c .lock .first ≤ Limit.word
+  pub lock2 : c .lock .second ≤ Limit.word
 
 -- and so are a fresh store's
 pub record FreshWords (supply : ℕ) (p : Password) : Type 0 where
-  pub amount : supply ≤ 4294967295
-  pub p1 : p .p1 ≤ 4294967295
-  pub p2 : p .p2 ≤ 4294967295
+  pub amount : supply ≤ Limit.word
+  pub p1 : p .p1 ≤ Limit.word
+  pub p2 : p .p2 ≤ Limit.word
 
 unfoldable pub FreeObject : State → ℕ → Type 0
-FreeObject s o = (1 ≤ o) × (o ≤ 64) × (s .object o .live ≡ false)
+FreeObject s o = (1 ≤ o) × (o ≤ Limit.objects) × (s .object o .live ≡ false)
 
 unfoldable pub FreeCap : State → ℕ → Type 0
-FreeCap s i = (1 ≤ i) × (i ≤ 512) × (capLives s i ≡ false)
+FreeCap s i = (1 ≤ i) × (i ≤ Limit.caps) × (capLives s i ≡ false)
 
 -- the slots that the call takes were free; rename_obj frees its object's own before it takes one
 pub record Open (s : State) (c : Call) (h : Choice) : Type 0 where
@@ -109,7 +110,7 @@ pub record Match (n : Now) (i k : ℕ) : Type 0 where
 -- the holder's capability at j lies in the giver's at i: one object, one tree and so one purse, rights and window
 pub record Within (s : State) (j i : ℕ) : Type 0 where
   pub object : s .cap j .object ≡ s .cap i .object
-  pub tree : masterOf s j ≡ masterOf s i
+  pub tree : rootOf s j ≡ rootOf s i
   pub rights : bitAnd (s .cap j .rights) (s .cap i .rights) ≡ s .cap j .rights
   pub window : LiesIn (s .cap j .window) (s .cap i .window)
 
@@ -126,10 +127,10 @@ pub record Claims (n : Now) : Type 0 where
   -- holder within giver: where the holder's line h leads back to the giver's line g
   pub holder : (i j g h : ℕ) → Match n i g → Match n j h → leadsBack (n .ledger) h g ≡ true → Within (n .store) j i
   -- every climb by parents ends at the object's master
-  pub rooted : (i : ℕ) → capLives (n .store) i ≡ true → Rooted (n .store) i (masterOf (n .store) i)
+  pub rooted : (i : ℕ) → capLives (n .store) i ≡ true → Rooted (n .store) i (rootOf (n .store) i)
   -- a tree, a master with all whose climb ends at it, matches a line from none with all that lead back to it
   pub tree : (i m k r : ℕ) → Match n i k → Match n m r
-      → (masterOf (n .store) i ≡ m) ↔ ((n .ledger .line r .from ≡ 0) × (leadsBack (n .ledger) k r ≡ true))
+      → (rootOf (n .store) i ≡ m) ↔ ((n .ledger .line r .from ≡ 0) × (leadsBack (n .ledger) k r ≡ true))
   -- the purse equation: first moneyword and paid in are the present moneyword and drawn
   pub purse : (i k : ℕ) → Match n i k
       → n .ledger .line k .first + summed (n .ledger) (n .ledger .paidIn) k

@@ -4,6 +4,7 @@ use Prim.Native.Nat.{ℕ, _+_, _-_, _/_}
 use mathlib.Core.Bool.{Bool, true, false, not, _&&_}
 use mathlib.Core.List.{List, [], _∷_}
 use lib.Dec.{eqb}
+use Rattle.rules.specs.Limit as Limit
 use Rattle.rules.specs.Slots.{at, find, sumOver, countOver, mem, climb, lastOf}
 
 -- ---- the parts of a record
@@ -103,11 +104,11 @@ noCap = record { object = 0; parent = 0; password = noPassword; window = noWindo
 
 -- from the capability at slot i up to its master
 unfoldable pub path : State → ℕ → List ℕ
-path s i = climb 512 (λ j. s .cap j .parent) i
+path s i = climb Limit.caps (λ j. s .cap j .parent) i
 
 -- the slot of the master that the climb from i ends at
-unfoldable pub masterOf : State → ℕ → ℕ
-masterOf s i = lastOf (path s i) 0
+unfoldable pub rootOf : State → ℕ → ℕ
+rootOf s i = lastOf (path s i) 0
 
 -- i is k, or is one of its descendants
 unfoldable pub descends : State → ℕ → ℕ → Bool
@@ -120,21 +121,21 @@ capLives s i = not (eqb (s .cap i .object) 0)
 
 -- the slot of the object with this name, 0 if there is none
 unfoldable pub objectNamed : State → Name → ℕ
-objectNamed s n = find 64 (λ o. s .object o .live && sameName (s .object o .name) n)
+objectNamed s n = find Limit.objects (λ o. s .object o .live && sameName (s .object o .name) n)
 
 -- the blocks of 64 bytes that a size needs: divided by 64, rounded up
 unfoldable pub blocks : ℕ → ℕ
-blocks size = (size + 63) / 64
+blocks size = (size + (Limit.block - 1)) / Limit.block
 
 unfoldable pub objectsLive : State → ℕ
-objectsLive s = countOver 64 (λ o. s .object o .live)
+objectsLive s = countOver Limit.objects (λ o. s .object o .live)
 
 unfoldable pub capsLive : State → ℕ
-capsLive s = countOver 512 (λ i. capLives s i)
+capsLive s = countOver Limit.caps (λ i. capLives s i)
 
 -- of the 512 blocks in all, those that no object holds
 unfoldable pub freeBlocks : State → ℕ
-freeBlocks s = 512 - sumOver 64 (λ o. blocks (s .object o .size))
+freeBlocks s = Limit.blocks - sumOver Limit.objects (λ o. blocks (s .object o .size))
 
 -- ---- the money total: all cash, all masters' moneywords, all sums in boxes, and the house
 
@@ -143,13 +144,13 @@ sumsIn [] = 0
 sumsIn (m ∷ l) = m .sum + sumsIn l
 
 unfoldable pub allCash : State → ℕ
-allCash s = sumOver 64 (λ o. s .cash o)
+allCash s = sumOver Limit.objects (λ o. s .cash o)
 
 unfoldable pub allMasters : State → ℕ
-allMasters s = sumOver 512 (λ i. elim (eqb (s .cap i .parent) 0) [ true ↦ s .money i | false ↦ 0 ])
+allMasters s = sumOver Limit.caps (λ i. elim (eqb (s .cap i .parent) 0) [ true ↦ s .money i | false ↦ 0 ])
 
 unfoldable pub allBoxes : State → ℕ
-allBoxes s = sumOver 64 (λ o. sumsIn (s .box o))
+allBoxes s = sumOver Limit.objects (λ o. sumsIn (s .box o))
 
 unfoldable pub moneyIn : State → ℕ
 moneyIn s = allCash s + allMasters s + allBoxes s + s .house
@@ -170,12 +171,12 @@ fresh supply p = record {
   cash = at (λ o. 0) 1 supply;
   marks = λ o. noMarks;
   box = λ o. [];
-  cap = at (λ i. noCap) 1 (record { object = 1; parent = 0; password = p; window = noWindow; rights = 8191 });
+  cap = at (λ i. noCap) 1 (record { object = 1; parent = 0; password = p; window = noWindow; rights = Limit.rights });
   money = λ i. 0;
 }
 
 -- a theorem that computes with this file's definitions says `unfolding` and this name
 unfoldable pub computes : Unit {0}
-unfolding sameName samePassword noName noPassword noWindow noLockword noMarks noObject noCap path masterOf descends
+unfolding sameName samePassword noName noPassword noWindow noLockword noMarks noObject noCap path rootOf descends
     capLives objectNamed blocks objectsLive capsLive freeBlocks sumsIn allCash allMasters allBoxes moneyIn fresh
 computes = tt

@@ -3,6 +3,7 @@ use Prim.Native.Nat.{ℕ, _<_}
 use mathlib.Core.Path.{_≡_}
 use mathlib.Core.Bool.{true, false}
 use mathlib.Core.List.{List, [], _∷_, map}
+use Rattle.rules.specs.Code as Code
 use Rattle.rules.specs.Store.{Password, State, moneyIn, fresh}
 use Rattle.rules.specs.Valid.{Valid}
 use Rattle.rules.specs.Call.{Call, Outcome, Choice, code}
@@ -29,11 +30,11 @@ pub record Refused (s : State) (c : Call) (r : Outcome) : Type 0 where
   -- a refusal's other result fields are 0
   pub others : r .answer ≡ code (r .answer .code)
   -- 2 and 3 change nothing
-  pub nothing : r .answer .code < 4 → r .after ≡ s
+  pub nothing : r .answer .code < Code.cannotPay → r .after ≡ s
   -- 4 marks the caller terminated
-  pub marks : r .answer .code ≡ 4 → r .after ≡ setTerminated s (caller s c) true
+  pub marks : r .answer .code ≡ Code.cannotPay → r .after ≡ setTerminated s (caller s c) true
   -- later ones move only the fee
-  pub fee : 4 < r .answer .code → r .after ≡ paid s c
+  pub fee : Code.cannotPay < r .answer .code → r .after ≡ paid s c
 
 unfoldable pub RefusedLeaves : Type 0
 RefusedLeaves = (s : State) (c : Call) (h : Choice) → isDone (rule s c h) ≡ false → Refused s c (rule s c h)

@@ -8,6 +8,7 @@ use mathlib.Core.Bool.{true, false}
 use mathlib.Core.List.{List, [], _∷_}
 use lib.ListN.{length}
 use lib.Bits.{bitAnd}
+use Rattle.rules.specs.Limit as Limit
 use Rattle.rules.specs.Slots.{sumOver}
 use Rattle.rules.specs.Store.{Window, Lockword, Message, Object, Cap, State, noObject, noCap}
 use Rattle.rules.specs.Store.{noLockword, noMarks, blocks, moneyIn}
@@ -16,10 +17,10 @@ use Rattle.rules.specs.Store.{noLockword, noMarks, blocks, moneyIn}
 
 pub record LiveObject (o : ℕ) (x : Object) : Type 0 where
   pub some : 1 ≤ o
-  pub low : o ≤ 64
-  pub volume : x .name .volume ≤ 3
-  pub serial : x .name .serial ≤ 65535
-  pub size : x .size ≤ 8192
+  pub low : o ≤ Limit.objects
+  pub volume : x .name .volume ≤ Limit.volume
+  pub serial : x .name .serial ≤ Limit.serial
+  pub size : x .size ≤ Limit.size
 
 pub record Objects (object : ℕ → Object) : Type 0 where
   pub live : (o : ℕ) → object o .live ≡ true → LiveObject o (object o)
@@ -27,7 +28,7 @@ pub record Objects (object : ℕ → Object) : Type 0 where
   -- a serial is unique on its volume
   pub names : (o q : ℕ) → object o .live ≡ true → object q .live ≡ true → object o .name ≡ object q .name → o ≡ q
   -- 512 blocks in all
-  pub room : sumOver 64 (λ o. blocks (object o .size)) ≤ 512
+  pub room : sumOver Limit.objects (λ o. blocks (object o .size)) ≤ Limit.blocks
 
 -- ---- capabilities: at most 512 live, their words are 32-bit, their rights 0 to 8191
 
@@ -36,10 +37,10 @@ Lives cap i = cap i .object ≢ 0
 
 pub record LiveCap (object : ℕ → Object) (i : ℕ) (x : Cap) : Type 0 where
   pub some : 1 ≤ i
-  pub low : i ≤ 512
-  pub p1 : x .password .p1 ≤ 4294967295
-  pub p2 : x .password .p2 ≤ 4294967295
-  pub rights : x .rights ≤ 8191
+  pub low : i ≤ Limit.caps
+  pub p1 : x .password .p1 ≤ Limit.word
+  pub p2 : x .password .p2 ≤ Limit.word
+  pub rights : x .rights ≤ Limit.rights
   pub ordered : x .window .start ≤ x .window .end
   pub owned : object (x .object) .live ≡ true
 
@@ -88,17 +89,17 @@ ProcessOnly object f z = (o : ℕ) → object o .process ≡ false → f o ≡ z
 
 -- a lockword's first word is below 2,147,483,648
 pub record LockwordFits (x : Lockword) : Type 0 where
-  pub first : x .first < 2147483648
-  pub second : x .second ≤ 4294967295
+  pub first : x .first < Limit.top
+  pub second : x .second ≤ Limit.word
 
 -- a message is 0 to 16 bytes
 abbrev pub Short : List Message → Type 0
 Short [] = Unit {0}
-Short (m ∷ l) = (length (m .bytes) ≤ 16) × Short l
+Short (m ∷ l) = (length (m .bytes) ≤ Limit.message) × Short l
 
 -- a box of at most 4 messages
 pub record BoxFits (l : List Message) : Type 0 where
-  pub room : length l ≤ 4
+  pub room : length l ≤ Limit.box
   pub short : Short l
 
 -- ---- the whole
@@ -116,10 +117,10 @@ pub record Formed (s : State) : Type 0 where
   pub no-cash : ProcessOnly (s .object) (s .cash) 0
   pub no-marks : ProcessOnly (s .object) (s .marks) noMarks
   pub no-box : ProcessOnly (s .object) (s .box) []
-  pub money : (i : ℕ) → s .money i ≤ 4294967295
+  pub money : (i : ℕ) → s .money i ≤ Limit.word
   pub no-money : (i : ℕ) → s .cap i .object ≡ 0 → s .money i ≡ 0
 
 pub record Valid (s : State) : Type 0 where
   pub formed : Formed s
   -- the money total is at most 4,294,967,295
-  pub total : moneyIn s ≤ 4294967295
+  pub total : moneyIn s ≤ Limit.word

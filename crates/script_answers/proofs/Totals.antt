@@ -6,19 +6,11 @@ use native.Mathlib.Omega.{arith}
 use lib.ListN.{length}
 use Rattle.rules.specs.Store.{State, allCash, allMasters, allBoxes, moneyIn}
 use Rattle.rules.specs.Script.{totals}
-use Rattle.layout.specs.View.{view}
 use Rattle.layout.specs.Fields.{TotalFits}
-use Rattle.check_money.specs.Amount.{ofMaster, masterMoney, MastersAre}
-use Rattle.check_money.proofs.Adding.{Added, added-all}
 use Rattle.script_text.specs.Numeral.{after}
 use Rattle.script_text.specs.Pasted.{Wrote, Put}
 use Rattle.script_text.proofs.Pasting.{wrote-then}
 use Rattle.script_answers.specs.Ends.{totalsLine}
-
-pub masters-added : (b l w : List ℕ) (k total : ℕ) → k ≤ 0 → Added (masterMoney (view b l w)) 4294967295 512 k total
-    → MastersAre b l w total
-unfolding allMasters ofMaster
-masters-added b l w k total z a = added-all _ _ _ _ _ z a
 
 -- no part is more than the whole
 pub record Parts (s : State) : Type 0 where

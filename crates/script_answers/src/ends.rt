@@ -34,7 +34,7 @@ fn all_masters(links: &[u16], words: &[u32]) -> u64
     let mut total: u64 = 0;
     let mut i: usize = 512;
     while 0 < i {
-        total += money_at(links, words, i) as u64;
+        total += money_at(links, words, i).0 as u64;
         i -= 1;
     }
     total

@@ -39,28 +39,28 @@ now s l = record { store = s; ledger = l }
 -- ---- one call
 
 module _ (s : Store) (e : Event) (W : Formed s) (h : Happens s e) where
-  abbrev stepped : Steps (callAt s e) (e .reply) (lent s (e .buffer) (e .scratch))
+  abbrev stepped : Steps (callAt e) (e .reply) (lent s (e .buffer) (e .scratch))
       (lent (e .store) (e .buffer-after) (e .scratch-after))
   stepped = h .steps W .rules
 
   abbrev stepOf : Step
-  stepOf = record { call = callAt s e; choice = stepped .choice }
+  stepOf = record { call = callAt e; choice = stepped .choice }
 
   formed-next : Formed (e .store)
   formed-next = stepped .formed
 
-  allowed : Allowed (means s) (callAt s e) (stepped .choice)
+  allowed : Allowed (means s) (callAt e) (stepped .choice)
   allowed = stepped .allowed
 
   done-is : (l : Ledger) → doneAt (now (means s) l) stepOf ≡ isDone e
   unfolding doneAt Rule.isDone answerOf
   done-is l = ap (λ (o : Outcome). eqb (o .answer .code) 0) (stepped .rules)
 
-  next-is : (l : Ledger) → next (now (means s) l) stepOf ≡ now (means (e .store)) (book l (callAt s e) (isDone e))
+  next-is : (l : Ledger) → next (now (means s) l) stepOf ≡ now (means (e .store)) (book l (callAt e) (isDone e))
   unfolding next
   next-is l = λ i. record {
     store = stepped .rules i .after;
-    ledger = book l (callAt s e) (done-is l i);
+    ledger = book l (callAt e) (done-is l i);
   }
 
 -- ---- a list of them
@@ -77,12 +77,12 @@ last-formed s W [] h = W
 last-formed s W (e ∷ es) h = last-formed (e .store) (formed-next s e W (h .0)) es (h .1)
 
 run-is : (s : Store) (W : Formed s) (l : Ledger) (es : List Event) (h : Runs s es)
-    → run (now (means s) l) (stepsOf s W es h) ≡ now (means (lastStore s es)) (booked l s es)
+    → run (now (means s) l) (stepsOf s W es h) ≡ now (means (lastStore s es)) (booked l es)
 unfolding Runs run lastStore booked stepsOf
 run-is s W l [] h = refl
 run-is s W l (e ∷ es) h =
     ap (λ n. run n (stepsOf (e .store) (formed-next s e W (h .0)) es (h .1))) (next-is s e W (h .0) l)
-    ∙ run-is (e .store) (formed-next s e W (h .0)) (book l (callAt s e) (isDone e)) es (h .1)
+    ∙ run-is (e .store) (formed-next s e W (h .0)) (book l (callAt e) (isDone e)) es (h .1)
 
 legal : (s : Store) (W : Formed s) (l : Ledger) (es : List Event) (h : Runs s es)
     → Legal (now (means s) l) (stepsOf s W es h)
@@ -91,7 +91,7 @@ legal s W l [] h = tt
 legal s W l (e ∷ es) h = (
   allowed s e W (h .0),
   subst (λ n. Legal n (stepsOf (e .store) (formed-next s e W (h .0)) es (h .1))) (sym (next-is s e W (h .0) l))
-      (legal (e .store) (formed-next s e W (h .0)) (book l (callAt s e) (isDone e)) es (h .1)),
+      (legal (e .store) (formed-next s e W (h .0)) (book l (callAt e) (isDone e)) es (h .1)),
 )
 
 -- ---- a list cut in two
@@ -111,11 +111,11 @@ unfolding lastStore
 last-with s [] e = refl
 last-with s (d ∷ f) e = last-with (d .store) f e
 
-booked-with : (l : Ledger) (s : Store) (f : List Event) (e : Event)
-    → booked l s (f ++ e ∷ []) ≡ book (booked l s f) (callAt (lastStore s f) e) (isDone e)
-unfolding booked lastStore
-booked-with l s [] e = refl
-booked-with l s (d ∷ f) e = booked-with (book l (callAt s d) (isDone d)) (d .store) f e
+booked-with : (l : Ledger) (f : List Event) (e : Event)
+    → booked l (f ++ e ∷ []) ≡ book (booked l f) (callAt e) (isDone e)
+unfolding booked
+booked-with l [] e = refl
+booked-with l (d ∷ f) e = booked-with (book l (callAt d) (isDone d)) f e
 
 legal-with : (n : Now) (xs : List Step) (x : Step) → Legal n xs → Allowed (run n xs .store) (x .call) (x .choice)
     → Legal n (xs ++ x ∷ [])
@@ -176,8 +176,8 @@ module _ (supply : ℕ) (p : Password) (words : FreshWords supply p) (old s : St
     next-after : next (run (start supply p) (steps f h)) last-step ≡ after p s (f ++ e ∷ [])
     next-after =
         ap (λ n. next n last-step) (run-after f h)
-        ∙ next-is (lastStore s f) e (last-formed s formed f h) g (booked (opening p) s f)
-        ∙ sym (λ i. now (means (last-with s f e i)) (booked-with (opening p) s f e i))
+        ∙ next-is (lastStore s f) e (last-formed s formed f h) g (booked (opening p) f)
+        ∙ sym (λ i. now (means (last-with s f e i)) (booked-with (opening p) f e i))
 
     allowed-after : Allowed (run (start supply p) (steps f h) .store) (last-step .call) (last-step .choice)
     allowed-after = subst (λ (n : Now). Allowed (n .store) (last-step .call) (last-step .choice)) (sym (run-after f h))
@@ -185,17 +185,17 @@ module _ (supply : ℕ) (p : Password) (words : FreshWords supply p) (old s : St
 
     done-after : isDone e ≡ true → doneAt (run (start supply p) (steps f h)) last-step ≡ true
     done-after d = ap (λ n. doneAt n last-step) (run-after f h)
-        ∙ done-is (lastStore s f) e (last-formed s formed f h) g (booked (opening p) s f) ∙ d
+        ∙ done-is (lastStore s f) e (last-formed s formed f h) g (booked (opening p) f) ∙ d
 
     ended-after : op (e .request .number) ≡ deleteCap → isDone e ≡ true
-        → Ended (after p s f) (callAt (lastStore s f) e) (after p s (f ++ e ∷ []))
+        → Ended (after p s f) (callAt e) (after p s (f ++ e ∷ []))
     unfolding Rules.Demand3 callOf
     ended-after o d =
         let claim = demand-3 supply p words (steps f h ++ last-step ∷ [])
         (legal-with (start supply p) (steps f h) last-step (steps-legal f h) allowed-after) .deletes
         (steps f h) [] last-step refl o (done-after d) in
-        subst (λ n. Ended n (callAt (lastStore s f) e) (after p s (f ++ e ∷ []))) (run-after f h)
-        (subst (λ n. Ended (run (start supply p) (steps f h)) (callAt (lastStore s f) e) n) next-after claim)
+        subst (λ n. Ended n (callAt e) (after p s (f ++ e ∷ []))) (run-after f h)
+        (subst (λ n. Ended (run (start supply p) (steps f h)) (callAt e) n) next-after claim)
 
 -- Demand 3, undivided
 pub history : Demand3

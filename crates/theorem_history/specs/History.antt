@@ -4,6 +4,8 @@ use mathlib.Core.Path.{_≡_}
 use mathlib.Core.Bool.{Bool, true}
 use mathlib.Core.List.{List, [], _∷_, _++_}
 use lib.Dec.{eqb}
+use lib.ListN.{length}
+use Rattle.rules.specs.Code as Code
 use Rattle.rules.specs.Store.{Password}
 use Rattle.rules.specs.Rights.{deleteCap, op}
 use Rattle.rules.specs.Call.{Call}
@@ -13,7 +15,8 @@ use Rattle.layout.specs.View.{view}
 use Rattle.kernel_fresh.specs.Fresh.{Fresh}
 use Rattle.call_steps.specs.declared.request.Request.{Request}
 use Rattle.call_steps.specs.declared.request.Reply.{Reply}
-use Rattle.kernel_step.specs.Slices.{Slices, slices, callOn}
+use Rattle.call_steps.specs.Request.{callOf}
+use Rattle.kernel_step.specs.Slices.{Slices, slices}
 use Rattle.kernel_call.specs.Calls.{Calls}
 
 -- a store: three slices
@@ -38,9 +41,9 @@ pub record Event : Type 0 where
   pub buffer-after : List ℕ
   pub scratch-after : List ℕ
 
--- the call that it makes on the store s
-abbrev pub callAt : Store → Event → Call
-callAt s e = callOn (e .request) (e .text) (lent s (e .buffer) (e .scratch))
+-- the call that it makes, with nothing of the store
+abbrev pub callAt : Event → Call
+callAt e = callOf (e .request) (e .text) (length (e .buffer)) (length (e .scratch))
 
 -- it is as the contract of `call` says
 abbrev pub Happens : Store → Event → Type 0
@@ -59,18 +62,18 @@ lastStore s (e ∷ es) = lastStore (e .store) es
 
 -- the call was done
 abbrev pub isDone : Event → Bool
-isDone e = eqb (e .reply .code) 0
+isDone e = eqb (e .reply .code) Code.done
 
 -- the ledger is fed each call and whether it was done, nothing of the store
-unfoldable pub booked : Ledger → Store → List Event → Ledger
-booked l s [] = l
-booked l s (e ∷ es) = booked (book l (callAt s e) (isDone e)) (e .store) es
+unfoldable pub booked : Ledger → List Event → Ledger
+booked l [] = l
+booked l (e ∷ es) = booked (book l (callAt e) (isDone e)) es
 
 -- what the store means and the ledger beside it, after these calls
 abbrev pub after : Password → Store → List Event → Now
 after p s es =
     let z : Store = lastStore s es in
-    record { store = view (z .bytes) (z .links) (z .words); ledger = booked (opening p) s es }
+    record { store = view (z .bytes) (z .links) (z .words); ledger = booked (opening p) es }
 
 -- of a run from s: the claims hold at its end, and each done delete in it ended what it should
 pub record Holds (p : Password) (s : Store) (es : List Event) : Type 0 where
@@ -79,13 +82,13 @@ pub record Holds (p : Password) (s : Store) (es : List Event) : Type 0 where
       → es ≡ front ++ e ∷ back
       → op (e .request .number) ≡ deleteCap
       → isDone e ≡ true
-      → Ended (after p s front) (callAt (lastStore s front) e) (after p s (front ++ e ∷ []))
+      → Ended (after p s front) (callAt e) (after p s (front ++ e ∷ []))
 
 -- Demand 3: after every list of calls from a fresh store, whatever stood in the slices before
 unfoldable pub Demand3 : Type 0
 Demand3 =
     (supply : ℕ) (p : Password) → FreshWords supply p
     → (old new : Store)
-    → Fresh supply p (old .bytes) (old .links) (old .words) (new .bytes) (new .links) (new .words) 0
+    → Fresh supply p (old .bytes) (old .links) (old .words) (new .bytes) (new .links) (new .words) Code.done
     → (es : List Event) → Runs new es
     → Holds p new es

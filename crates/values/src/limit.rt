@@ -23,6 +23,8 @@ pub const MAX_CAPS: usize = 512;
 // "a box of at most 4 messages"
 pub const MAX_MESSAGES: u8 = 4;
 
+pub const BOX_SLOTS: usize = MAX_MESSAGES as usize;
+
 // "A message is 0 to 16 bytes"
 pub const MAX_MESSAGE: usize = 16;
 

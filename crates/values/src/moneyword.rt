@@ -2,6 +2,8 @@
 ghost use mathlib.Core.Path.{_≡_};
 ghost use Prim.Native.Nat.{_+_, _-_};
 ghost use lib.Dec.{ltb};
+ghost use Rattle.rules.specs.Limit;
+use crate::limit::MAX_WORD;
 
 pub struct Moneyword(pub u32);
 
@@ -26,8 +28,8 @@ impl Moneyword {
 
     // With the sum it would pass 4,294,967,295.
     pub fn passes(self, sum: u32) -> bool
-        ensures { λ r. ⌜ r ≡ ltb 4294967295 (self .0 + sum) ⌝ }
+        ensures { λ r. ⌜ r ≡ ltb Limit.word (self .0 + sum) ⌝ }
     {
-        4294967295 - self.0 < sum
+        MAX_WORD - self.0 < sum
     }
 }

@@ -2,6 +2,7 @@
 ghost use mathlib.Core.Path.{_≡_};
 ghost use Rattle.rules.specs.Password.{unlock};
 ghost use Rattle.values.specs.Words.{passwordOf, lockwordOf, xorOf};
+use crate::limit::TOP;
 
 // The two words of a, each XORed with that of b.
 pub fn xor_words(a: [u32; 2], b: [u32; 2]) -> [u32; 2]
@@ -14,9 +15,5 @@ pub fn xor_words(a: [u32; 2], b: [u32; 2]) -> [u32; 2]
 pub fn unlock(p: [u32; 2], lock: [u32; 2]) -> [u32; 2]
     ensures { λ r. ⌜ passwordOf r ≡ unlock (passwordOf p) (lockwordOf lock) ⌝ }
 {
-    if p[0] >= 2147483648 {
-        xor_words(p, lock)
-    } else {
-        p
-    }
+    if p[0] >= TOP { xor_words(p, lock) } else { p }
 }

@@ -1,7 +1,9 @@
 -- `is_within` tests the rights and both ends of the window.
 use native.Mathlib.Omega.{arith}
-use mathlib.Core.Path.{sym, ap₂, _∙_}
+use mathlib.Core.Path.{_≡_, sym, ap₂, _∙_}
 use lib.Bits.{bitAnd}
+use Rattle.rules.specs.Rights.{both}
+use Rattle.layout.specs.Rows.{rightsOf}
 use Rattle.layout.proofs.Deciding.{no-it, as-well, at-most}
 use borrow.Author.Needs.{needs}
 use Rattle.check_caps.proofs.is_within.Statement.{statement}
@@ -13,11 +15,22 @@ link-requires c κs = search needs
 link-requires-2 : tie.Need-link-requires-2
 link-requires-2 c κs = search needs
 
+both-requires : tie.Need-both-requires
+both-requires c κs = search needs
+
+abbrev start : tie.After-both → tie.Start
+start c = c .before .before .before .before .before
+
+-- the rights in both sets
+shared : (c : tie.After-both)
+    → c .both .result .0 ≡ bitAnd (rightsOf (start c .args .links .now) (start c .args .i)) (rightsOf (start c .args .links .now) (start c .args .p))
+unfolding both
+shared c = c .both .ensures ∙ ap₂ bitAnd (c .before .before .link .ensures) (c .before .link2 .ensures)
+
 returns : tie.Need-returns
 returns c =
-    let both = c .before in
-    let own = both .before .link .ensures in
-    no-it (λ h. c .if1 .taken (ap₂ bitAnd own (both .link2 .ensures) ∙ h .0 ∙ sym own))
+    let e = c .before .before .before in
+    no-it (λ h. c .if1 .taken (shared e ∙ h .0 ∙ sym (e .before .before .link .ensures)))
 
 word-requires : tie.Need-word-requires
 word-requires c κs = search needs
@@ -37,11 +50,10 @@ word-requires-4 c κs = search needs
 returns-3 : tie.Need-returns-3
 returns-3 c =
     let kept = c .before .before .before .before .before in
-    let both = kept .before in
-    let own = both .before .link .ensures in
+    let e = kept .before .before .before in
     as-well (at-most (c .before .word3 .result) (c .word4 .result))
-    (λ e. (
-      sym (ap₂ bitAnd own (both .link2 .ensures)) ∙ kept .if1 .left ∙ own,
+    (λ t. (
+      sym (shared e) ∙ kept .if1 .left ∙ e .before .before .link .ensures,
       omega arith,
       omega arith,
     ))
@@ -53,6 +65,7 @@ is-within-spec =
     (tie.spec
     link-requires
     link-requires-2
+    both-requires
     returns
     word-requires
     word-requires-2

@@ -32,8 +32,8 @@ loop-less : tie.Need-loop-less Inv-loop μ-loop
 loop-less c = omega arith
 
 loop-again : tie.Need-loop-again Inv-loop μ-loop
-loop-again c = let p = c .before .before .loop .inv in
-    added-more _ _ _ _ _ _ (omega arith) (c .cash-at .ensures) (omega arith) p
+loop-again c = let p = c .before .before .before .loop .inv in
+    added-more _ _ _ _ _ _ (omega arith) (c .before .cash-at .ensures) (omega arith) p
 
 returns : tie.Need-returns Inv-loop μ-loop
 unfolding allCash

@@ -71,23 +71,24 @@ cast-total : tie.Need-cast-total Inv-loop μ-loop
 cast-total c = search needs
 
 add-total : tie.Need-add-total Inv-loop μ-loop
-add-total c = let p = c .before .before .before .before .before .before .before .before .before .before .before .before .before in omega (arith, p .loop .inv .passed .money [] .small)
+add-total c = let p = c .before .before .before .before .before .before .before .before .before .before .before .before .before .before in omega (arith, p .loop .inv .passed .money [] .small)
 
 add-k : tie.Need-add-k Inv-loop μ-loop
-add-k c = let p = c .before .before .before .before .before .before .before .before .before .before .before .before .before in omega (arith, p .loop .inv .rest .room)
+add-k c = let p = c .before .before .before .before .before .before .before .before .before .before .before .before .before .before in omega (arith, p .loop .inv .rest .room)
 
 loop-less : tie.Need-loop-less Inv-loop μ-loop
 loop-less c = omega arith
 
 loop-again : tie.Need-loop-again Inv-loop μ-loop
-loop-again c = let entered = c .before .before .before .before .before .before in
+loop-again c = let added = c .before in
+    let entered = added .before .before .before .before .before .before in
     let fitting = entered .before .before .before in
     let here = fitting .before .before .before in
     reach-on _ _ _ _ _ _ _ _ (here .before .loop .inv) (here .loop-test .taken) _ _ _
     (granted (fitting .before .cap-fits .ensures) (fitting .if1 .left))
     (entered .enter .ensures .table)
-    (granted (entered .enter .ensures .answer) (c .before .if2 .left))
-    (c .money-at .ensures)
+    (granted (entered .enter .ensures .answer) (added .before .if2 .left))
+    (added .money-at .ensures)
     (omega arith)
 
 same-length-5 : tie.Need-same-length-5 Inv-loop μ-loop

@@ -1,26 +1,30 @@
 -- `store_call` makes the call where both slices fit, else nothing.
-use mathlib.Core.Path.{_≡_, refl}
-use native.Mathlib.Omega.{arith}
-use lib.ListN.{length}
+use mathlib.Core.Path.{refl}
 use borrow.Author.Needs.{needs}
+use Rattle.layout.proofs.Deciding.{refuted}
+use Rattle.exports.specs.Numbers.{Fitting}
 use Rattle.exports.proofs.Making.{made-by, kept-by}
 use Rattle.exports.proofs.store_call.Statement.{statement}
 use Rattle.exports.proofs.store_call.Tie as tie
 
-returns : tie.Need-returns
-returns c = kept-by (λ f. absurd (omega (arith, f .asks))) (record { code-is = refl; reply-is = refl; slices-are = refl })
+abbrev start : tie.Then1 → tie.Start
+start c = c .before .before .before .before .before .before .before .before .before .before
 
-returns-2 : tie.Need-returns-2
-returns-2 c = kept-by (λ f. absurd (omega (arith, f .tells))) (record { code-is = refl; reply-is = refl; slices-are = refl })
+-- both slices have their lengths
+fitting : (c : tie.Then1) → Fitting (start c .args .request .now) (start c .args .reply .now)
+fitting c = c .before .fits2 .ensures .sound (c .if1 .taken)
+
+fits-requires : tie.Need-fits-requires
+fits-requires c κs = search needs
 
 request-of-requires : tie.Need-request-of-requires
-request-of-requires c κs = search needs
+request-of-requires c κs = fitting c .asks
 
 call-requires : tie.Need-call-requires
 call-requires c κs = search needs
 
 put-reply-requires : tie.Need-put-reply-requires
-put-reply-requires c κs = search needs
+put-reply-requires c κs = fitting (c .before .before .before .before .before .before .before .before .before .before .before .before .before .before .before .before .before .before) .tells
 
 same-length : tie.Need-same-length
 same-length c = search needs
@@ -40,18 +44,34 @@ same-length-5 c = search needs
 same-length-6 : tie.Need-same-length-6
 same-length-6 c = search needs
 
-returns-3 : tie.Need-returns-3
-returns-3 c =
+returns : tie.Need-returns
+returns c =
     let q = c .before .before .before .before .before .before .before .before .before .before .before .before .before .before in
-    made-by (record { asks = omega arith; tells = omega arith }) (q .before .request-of .ensures) (q .call .ensures)
-    (c .before .before .put-reply .ensures)
+    made-by (fitting (q .before .before .before .before .before .before .before)) (q .before .before .before .before .before .before .request-of .ensures) (q .call .ensures) (c .before .before .put-reply .ensures)
+
+unfit-requires : tie.Need-unfit-requires
+unfit-requires c κs = search needs
+
+same-length-7 : tie.Need-same-length-7
+same-length-7 c = search needs
+
+same-length-8 : tie.Need-same-length-8
+same-length-8 c = search needs
+
+same-length-9 : tie.Need-same-length-9
+same-length-9 c = search needs
+
+returns-2 : tie.Need-returns-2
+returns-2 c =
+    let e = c .before .before .before .before in
+    kept-by (refuted (e .before .fits2 .ensures) (e .if1 .left))
+    (record { code-is = c .unfit .ensures; reply-is = refl; slices-are = refl })
 
 pub store-call-spec : {M : Type 1} → statement M
 store-call-spec =
     tie.close
     (tie.spec
-    returns
-    returns-2
+    fits-requires
     request-of-requires
     call-requires
     put-reply-requires
@@ -61,4 +81,9 @@ store-call-spec =
     same-length-4
     same-length-5
     same-length-6
-    returns-3)
+    returns
+    unfit-requires
+    same-length-7
+    same-length-8
+    same-length-9
+    returns-2)

@@ -1,4 +1,4 @@
--- `write_links` takes the record out of the free chain and writes its links.
+-- `write_links` takes the record out of the free list and writes its links.
 use native.Mathlib.Omega.{arith}
 use lib.ListN.{length-set}
 use Rattle.layout.specs.Layout as Layout

@@ -1,4 +1,4 @@
--- `check_blocks` meets its contract: the blocks of all objects, then the free chain, then no record is left.
+-- `check_blocks` meets its contract: the blocks of all objects, then the free list, then no record is left.
 use native.Mathlib.Omega.{arith}
 use borrow.Author.Needs.{needs}
 use Rattle.check_chains.proofs.Marking.{marks-blank, marks-after}

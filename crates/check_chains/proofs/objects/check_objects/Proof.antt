@@ -1,4 +1,4 @@
--- `check_objects` meets its contract: the free chain, then the chain of the living, then no record is left.
+-- `check_objects` meets its contract: the free list, then the chain of the living, then no record is left.
 use native.Mathlib.Omega.{arith}
 use borrow.Author.Needs.{needs}
 use Rattle.check_chains.proofs.Marking.{marks-blank, marks-after}

@@ -5,8 +5,7 @@ use native.Mathlib.Omega.{arith}
 use borrow.Author.Needs.{needs}
 use Rattle.layout.specs.View.{view}
 use Rattle.check_money.specs.Amount.{masterMoney}
-use Rattle.check_money.proofs.Adding.{Added, added-none, added-more}
-use Rattle.script_answers.proofs.Totals.{masters-added}
+use Rattle.check_money.proofs.Adding.{Added, added-none, added-more, masters-added}
 use Rattle.script_answers.proofs.ends.all_masters.Statement.{statement}
 use Rattle.script_answers.proofs.ends.all_masters.Tie as tie
 
@@ -26,7 +25,7 @@ cast-total : tie.Need-cast-total Inv-loop μ-loop
 cast-total c = search needs
 
 add-total : tie.Need-add-total Inv-loop μ-loop
-add-total c = omega (arith, c .before .before .loop .inv [] .small, c .before .before .loop .inv [] .high)
+add-total c = omega (arith, c .before .before .before .loop .inv [] .small, c .before .before .before .loop .inv [] .high)
 
 sub-i : tie.Need-sub-i Inv-loop μ-loop
 sub-i c = omega arith
@@ -36,7 +35,7 @@ loop-less c = omega arith
 
 loop-again : tie.Need-loop-again Inv-loop μ-loop
 loop-again c = λ b.
-    added-more _ _ _ _ _ _ (omega arith) (c .money-at .ensures b) (omega arith) (c .before .before .loop .inv b)
+    added-more _ _ _ _ _ _ (omega arith) (c .before .money-at .ensures b) (omega arith) (c .before .before .before .loop .inv b)
 
 returns : tie.Need-returns Inv-loop μ-loop
 returns c = λ b. masters-added _ _ _ _ _ (c .loop-test .left) (c .before .loop .inv b)

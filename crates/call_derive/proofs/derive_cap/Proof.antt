@@ -4,8 +4,8 @@ use Rattle.call_steps.specs.Request.{nameOf}
 use Rattle.call_derive.proofs.Stops.{Tested, owner-is, object-is, stopped-12, stopped-13, goes-on}
 use native.Mathlib.Omega.{arith}
 use borrow.Author.Needs.{needs}
-use Rattle.call_derive.proofs.derive.derive_cap.Statement.{statement}
-use Rattle.call_derive.proofs.derive.derive_cap.Tie as tie
+use Rattle.call_derive.proofs.derive_cap.Statement.{statement}
+use Rattle.call_derive.proofs.derive_cap.Tie as tie
 
 abbrev entry : tie.After-p1-taken → tie.Start
 entry c = c .before .before .before .before .before .before .before .before

@@ -5,8 +5,8 @@ use borrow.Author.Needs.{needs}
 use Rattle.layout.specs.Layout as Layout
 use Rattle.layout.specs.Rows.{ownerOf, parentOf}
 use Rattle.call_rename.proofs.Stops.{slot-of, cell, not-master, p1-taken, renews}
-use Rattle.call_rename.proofs.rename.rename_obj.Statement.{statement}
-use Rattle.call_rename.proofs.rename.rename_obj.Tie as tie
+use Rattle.call_rename.proofs.rename_obj.Statement.{statement}
+use Rattle.call_rename.proofs.rename_obj.Tie as tie
 
 -- the parent that the code read
 abbrev entry : tie.After-slot → tie.Start

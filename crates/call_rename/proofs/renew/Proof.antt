@@ -5,8 +5,8 @@ use lib.ListN.{length-set}
 use borrow.Author.Needs.{needs}
 use Rattle.call_rename.specs.Runs.{renamedWords}
 use Rattle.call_rename.proofs.Stops.{slot-of}
-use Rattle.call_rename.proofs.rename.renew.Statement.{statement}
-use Rattle.call_rename.proofs.rename.renew.Tie as tie
+use Rattle.call_rename.proofs.renew.Statement.{statement}
+use Rattle.call_rename.proofs.renew.Tie as tie
 
 -- past `prune_below`, in the frame of the words
 abbrev entry : tie.After-slice-known4 → tie.Start
