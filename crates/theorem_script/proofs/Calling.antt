@@ -125,7 +125,7 @@ module _ {k : ℕ} {s s′ : Store} {ns out : List ℕ} (W : Formed s) (p : Play
     scratch-after = scratchAfter (op (c .number)) (a .code) scratch;
   }
 
-  event-call : callAt (asStore s) event ≡ c
+  event-call : callAt event ≡ c
   unfolding event buffer scratch
   event-call = same-call c _ _ (length-replicate (c .buffer) 0) (length-replicate (c .scratch) 0)
 

@@ -31,7 +31,7 @@ pub data Makes : ℕ → Store → List (List ℕ) → List Event → List ℕ �
       → Makes k s (ns ∷ nss) es (lineOf (k ∷ Code.outOfRange ∷ []) ++ text)
   call : {k : ℕ} {s : Store} {ns text : List ℕ} {nss : List (List ℕ)} {e : Event} {es : List Event}
       → lineFits (op (nth ns 0)) ns ≡ true
-      → callAt s e ≡ callOf (op (nth ns 0)) ns
+      → callAt e ≡ callOf (op (nth ns 0)) ns
       → Makes (suc k) (e .store) nss es text
       → Makes k s (ns ∷ nss) (e ∷ es) (lineOf (k ∷ answerOf (op (nth ns 0)) (answerIn e)) ++ text)
 
