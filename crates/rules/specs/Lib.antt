@@ -15,6 +15,7 @@ pub mod Rule
 pub mod Ledger
 pub mod Demand
 pub mod Theorems
+pub mod Fields
 pub mod Script
 pub mod Edges
 pub mod Scripts
