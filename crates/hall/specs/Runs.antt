@@ -8,6 +8,7 @@ use Rattle.layout.specs.View.{view}
 use Rattle.layout.specs.WellFormed.{WellFormed}
 use Rattle.script_text.specs.Numeral.{lineOf}
 use Rattle.script_text.specs.Pasted.{Put}
+use Rattle.script_answers.specs.Room.{ANSWER, REFUSAL, TOTALS}
 use Rattle.script_answers.specs.Ends.{totalsLine}
 use Rattle.script_play.specs.Plays.{Plays}
 use Rattle.script_play.specs.Starts.{Starts}
@@ -52,7 +53,7 @@ pub record Placed (out : List ℕ) (s : Run) : Type 0 where
 
 -- there is room for an answer; s at entry, s′ at exit
 pub record Roomy (out : List ℕ) (s s′ : Run) : Type 0 where
-  pub room : s′ .at + 2860 ≤ length out
+  pub room : s′ .at + ANSWER ≤ length out
   pub number : s′ .number ≡ s .number
   pub held : s′ .held ≡ s .held
   -- a run goes on, unless a write failed
@@ -61,13 +62,13 @@ pub record Roomy (out : List ℕ) (s s′ : Run) : Type 0 where
 
 -- the end of the output: `0 2` where line one was bad or absent, else the totals
 pub record EndPut (b l w out : List ℕ) (s : Run) (out′ : List ℕ) (r : ℕ) : Type 0 where
-  pub absent : s .number ≡ 0 → Put 22 out (s .at) (lineOf (0 ∷ 2 ∷ [])) out′ r
-  pub totals : (s .number ≡ 0 → ⊥) → Put 46 out (s .at) (totalsLine (view b l w)) out′ r
+  pub absent : s .number ≡ 0 → Put REFUSAL out (s .at) (lineOf (0 ∷ 2 ∷ [])) out′ r
+  pub totals : (s .number ≡ 0 → ⊥) → Put TOTALS out (s .at) (totalsLine (view b l w)) out′ r
   pub within : r ≤ 65536
 
 pub record EndAsks (b l w out : List ℕ) (s : Run) : Type 0 where
   pub sound : Sound b l w out s
-  pub room : s .at + 2860 ≤ length out
+  pub room : s .at + ANSWER ≤ length out
 
 -- ---- a line
 
@@ -80,7 +81,7 @@ pub record LineOne (line b l w b′ l′ w′ : List ℕ) (s s′ : Run) : Type 
 -- a later line is played; where s goes on, it has room
 pub record LaterAsks (b l w out : List ℕ) (s : Run) : Type 0 where
   pub formed : WellFormed b l w
-  pub room : s .at + 2860 ≤ length out
+  pub room : s .at + ANSWER ≤ length out
   pub counted : s .number < 4294967295
 
 pub record LineLater (line b l w out b′ l′ w′ out′ : List ℕ) (s s′ : Run) : Type 0 where

@@ -1,6 +1,7 @@
 // The output buffer, and the last line of the output.
 ghost use Rattle.hall.specs.Runs.{Sound, Placed, Roomy, EndAsks, EndPut};
 use crate::state::Run;
+use script_answers::answer::ANSWER;
 use script_answers::ends::bad_first_line;
 use script_answers::ends::totals_line;
 
@@ -10,7 +11,7 @@ pub fn make_room(out: &[u8], run: Run) -> Run
     ensures { λ r. ⌜ Roomy (now (out .entry)) run r ⌝ }
 {
     let at = run.at;
-    if at + 2860 <= out.len() {
+    if at + ANSWER <= out.len() {
         return run;
     }
     if io::write_all(1, &out[..at]) {

@@ -5,7 +5,7 @@ ghost use Rattle.hall.specs.State.{begun, holding, ended};
 // Between two lines or two turns.
 pub struct Run {
     // The next line's number, "counted from 1" after line one; 0 before line one.
-    pub number: u32,
+    pub number: u64,
     // How many places of the output buffer are taken.
     pub at: usize,
     // How many bytes of the input buffer belong to a line that has not ended.

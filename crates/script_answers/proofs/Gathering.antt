@@ -81,29 +81,26 @@ answer-refused : (o : Op) (a : Answer) → a .code ≢ 0 → a .code ∷ [] ≡ 
 unfolding answerOf
 answer-refused o a e = sym (pick-not (eqb (a .code) 0) _ _ (ne-eqb (a .code) 0 e))
 
-pub answered-done : {out mid out′ : List ℕ} {p r : ℕ} (line : ℕ) (o : Op) (a : Answer)
-    → Pushed out 0 (line ∷ a .code ∷ []) mid p → Pushed mid p (results o a) out′ r → a .code ≡ 0
-    → Pushed out 0 (line ∷ answerOf o a) out′ r
-answered-done {out} {out′ = out′} {r = r} line o a first rest e =
-    subst (λ (l : List ℕ). Pushed out 0 (line ∷ l) out′ r) (answer-done o a e) (pushed-then first rest)
+pub answered-done : {out mid out′ : List ℕ} {p r : ℕ} (o : Op) (a : Answer)
+    → Pushed out 0 (a .code ∷ []) mid p → Pushed mid p (results o a) out′ r → a .code ≡ 0
+    → Pushed out 0 (answerOf o a) out′ r
+answered-done {out} {out′ = out′} {r = r} o a first rest e =
+    subst (λ (l : List ℕ). Pushed out 0 l out′ r) (answer-done o a e) (pushed-then first rest)
 
-pub answered-refused : {out out′ : List ℕ} {r : ℕ} (line : ℕ) (o : Op) (a : Answer)
-    → Pushed out 0 (line ∷ a .code ∷ []) out′ r → a .code ≢ 0 → Pushed out 0 (line ∷ answerOf o a) out′ r
-answered-refused {out} {out′} {r} line o a first e =
-    subst (λ (l : List ℕ). Pushed out 0 (line ∷ l) out′ r) (answer-refused o a e) first
+pub answered-refused : {out out′ : List ℕ} {r : ℕ} (o : Op) (a : Answer)
+    → Pushed out 0 (a .code ∷ []) out′ r → a .code ≢ 0 → Pushed out 0 (answerOf o a) out′ r
+answered-refused {out} {out′} {r} o a first e =
+    subst (λ (l : List ℕ). Pushed out 0 l out′ r) (answer-refused o a e) first
 
--- the numbers pushed are written as a line
-pub line-pushed : (empty numbers ns out out′ : List ℕ) (at n r : ℕ) → Pushed empty 0 ns numbers n → n ≤ 260
-    → Put (11 * length (take n numbers)) out at (lineOf (take n numbers)) out′ r → Put 2860 out at (lineOf ns) out′ r
-line-pushed empty numbers ns out out′ at n r pushed few put = record {
-  wrote = subst (λ (l : List ℕ). Wrote out at (lineOf l) out′ r) (pushed .is) (put .wrote);
+-- the numbers pushed are written as a line, after its own number
+pub line-pushed : (empty numbers ns out out′ : List ℕ) (line at n r : ℕ) → Pushed empty 0 ns numbers n → n ≤ 259
+    → Put (21 + 11 * length (take n numbers)) out at (lineOf (line ∷ take n numbers)) out′ r → Put 2870 out at (lineOf (line ∷ ns)) out′ r
+line-pushed empty numbers ns out out′ line at n r pushed few put = record {
+  wrote = subst (λ (l : List ℕ). Wrote out at (lineOf (line ∷ l)) out′ r) (pushed .is) (put .wrote);
   room = omega (arith, put .room, length-take-le n numbers (pushed .within));
 }
 
--- it has one number at least, and room
-pub line-room : (empty numbers ns : List ℕ) (v n at size : ℕ) → Pushed empty 0 (v ∷ ns) numbers n → n ≤ 260 → at + 2860 ≤ size
-    → (1 ≤ length (take n numbers)) × (at + 11 * length (take n numbers) ≤ size)
-line-room empty numbers ns v n at size pushed few room = (
-  omega (arith, length-take-le n numbers (pushed .within), pushed .end),
-  omega (arith, length-take-le n numbers (pushed .within)),
-)
+-- there is room
+pub line-room : (empty numbers ns : List ℕ) (n at size : ℕ) → Pushed empty 0 ns numbers n → n ≤ 259 → at + 2870 ≤ size
+    → at + (21 + 11 * length (take n numbers)) ≤ size
+line-room empty numbers ns n at size pushed few room = omega (arith, length-take-le n numbers (pushed .within))

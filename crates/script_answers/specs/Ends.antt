@@ -7,6 +7,7 @@ use Rattle.rules.specs.Script.{totals}
 use Rattle.layout.specs.WellFormed.{Sized}
 use Rattle.layout.specs.Fields.{TotalFits}
 use Rattle.script_text.specs.Numeral.{after}
+use Rattle.script_answers.specs.Room.{TOTALS}
 
 -- byte 84 is `T`
 unfoldable pub totalsLine : State → List ℕ
@@ -16,4 +17,4 @@ totalsLine s = (84 ∷ []) ++ after (totals s) ++ (10 ∷ [])
 pub record TotalsAsk (b l w : List ℕ) (at : ℕ) (out : List ℕ) : Type 0 where
   pub sized : Sized b l w
   pub total : TotalFits b l w
-  pub room : at + 46 ≤ length out
+  pub room : at + TOTALS ≤ length out

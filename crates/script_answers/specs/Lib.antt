@@ -1,3 +1,4 @@
+pub mod Room
 pub mod Pushed
 pub mod Ends
 pub mod Output

@@ -8,10 +8,14 @@ ghost use Rattle.rules.specs.Script.{answerOf as Script·answerOf};
 ghost use Rattle.call_steps.specs.Request.{capabilityOf, answerOf};
 ghost use Rattle.script_text.specs.Numeral.{lineOf};
 ghost use Rattle.script_text.specs.Pasted.{Put};
+ghost use Rattle.script_answers.specs.Room.{ANSWER as Room·ANSWER};
 ghost use Rattle.script_answers.specs.Pushed.{Pushed, BytesCounted};
 use call_steps::request::Capability;
 use call_steps::request::Reply;
 use script_text::write::put_line;
+
+// Room for any answer, in bytes.
+pub const ANSWER: usize = 2870;
 
 // A number after the first `at`.
 fn push(numbers: &mut [u32], at: usize, v: u32) -> usize
@@ -81,36 +85,37 @@ fn push_results(numbers: &mut [u32], at: usize, number: u32, reply: Reply, buffe
     }
 }
 
-// A line's number, 0 or the refusal, and the results.
-fn answer_numbers(numbers: &mut [u32], line: u32, number: u32, reply: Reply, buffer: &[u8]) -> usize
-    requires { ⌜ BytesCounted (now buffer) (reply .count) ⌝ ∗ ⌜ 260 ≤ length (now numbers) ⌝ }
+// 0 or the refusal, and the results.
+fn answer_numbers(numbers: &mut [u32], number: u32, reply: Reply, buffer: &[u8]) -> usize
+    requires { ⌜ BytesCounted (now buffer) (reply .count) ⌝ ∗ ⌜ 259 ≤ length (now numbers) ⌝ }
     ensures { λ r. ⌜ Pushed (now (numbers .entry)) 0
-        (line ∷ Script·answerOf (op number) (answerOf reply (take (reply .count) (now (buffer .entry)))))
+        (Script·answerOf (op number) (answerOf reply (take (reply .count) (now (buffer .entry)))))
         (now (numbers .exit)) r ⌝ }
 {
     let code = reply.code;
-    let p = push_two(numbers, 0, line, code);
+    let p = push(numbers, 0, code);
     if code == 0 {
         return push_results(numbers, p, number, reply, buffer);
     }
     p
 }
 
-// The answer to a line, `number` being its call's: at most 260 numbers of ten digits, with a byte after each.
+// The answer to line `line`, `number` being its call's: the line's number in twenty digits at most, and at most 259 numbers of ten,
+// with a byte after each.
 pub fn answer_line(
     out: &mut [u8],
     at: usize,
-    line: u32,
+    line: u64,
     number: u32,
     reply: Reply,
     buffer: &[u8],
 ) -> usize
-    requires { ⌜ BytesCounted (now buffer) (reply .count) ⌝ ∗ ⌜ at + 2860 ≤ length (now out) ⌝ }
-    ensures { λ r. ⌜ Put 2860 (now (out .entry)) at
+    requires { ⌜ BytesCounted (now buffer) (reply .count) ⌝ ∗ ⌜ at + Room·ANSWER ≤ length (now out) ⌝ }
+    ensures { λ r. ⌜ Put Room·ANSWER (now (out .entry)) at
         (lineOf (line ∷ Script·answerOf (op number) (answerOf reply (take (reply .count) (now (buffer .entry))))))
         (now (out .exit)) r ⌝ }
 {
-    let mut numbers = [0u32; 260];
-    let n = answer_numbers(&mut numbers, line, number, reply, buffer);
-    put_line(out, at, &numbers[..n])
+    let mut numbers = [0u32; 259];
+    let n = answer_numbers(&mut numbers, number, reply, buffer);
+    put_line(out, at, line, &numbers[..n])
 }

@@ -7,6 +7,7 @@ ghost use Rattle.check_rows.specs.Slices.{LinksWords};
 ghost use Rattle.check_money.specs.Amount.{MastersAre};
 ghost use Rattle.script_text.specs.Numeral.{lineOf};
 ghost use Rattle.script_text.specs.Pasted.{Put};
+ghost use Rattle.script_answers.specs.Room.{REFUSAL, TOTALS};
 ghost use Rattle.script_answers.specs.Ends.{totalsLine, TotalsAsk};
 use check_money::all_boxes;
 use check_money::all_cash;
@@ -18,11 +19,11 @@ use script_text::write::put_line;
 
 // "If bad or absent, `0 2` is all it writes."
 pub fn bad_first_line(out: &mut [u8], at: usize) -> usize
-    requires { ⌜ at + 22 ≤ length (now out) ⌝ }
-    ensures { λ r. ⌜ Put 22 (now (out .entry)) at (lineOf (0 ∷ 2 ∷ [])) (now (out .exit)) r ⌝ }
+    requires { ⌜ at + REFUSAL ≤ length (now out) ⌝ }
+    ensures { λ r. ⌜ Put REFUSAL (now (out .entry)) at (lineOf (0 ∷ 2 ∷ [])) (now (out .exit)) r ⌝ }
 {
-    let numbers = [0u32, 2u32];
-    put_line(out, at, &numbers)
+    let others = [2u32];
+    put_line(out, at, 0, &others)
 }
 
 // The masters' moneywords.
@@ -42,7 +43,7 @@ fn all_masters(links: &[u16], words: &[u32]) -> u64
 // "Last `T` with cash, masters' moneywords, box sums, house."
 pub fn totals_line(bytes: &[u8], links: &[u16], words: &[u32], out: &mut [u8], at: usize) -> usize
     requires { ⌜ TotalsAsk (now bytes) (now links) (now words) at (now out) ⌝ }
-    ensures { λ r. ⌜ Put 46 (now (out .entry)) at
+    ensures { λ r. ⌜ Put TOTALS (now (out .entry)) at
         (totalsLine (view (now (bytes .entry)) (now (links .entry)) (now (words .entry)))) (now (out .exit)) r ⌝ }
 {
     let cash = all_cash(bytes, links, words);

@@ -23,6 +23,7 @@ use Rattle.kernel_step.specs.Slices.{Slices, slices, callOn}
 use Rattle.kernel_step.specs.Steps.{Stepped}
 use Rattle.script_text.specs.Numeral.{lineOf}
 use Rattle.script_text.specs.Pasted.{Put}
+use Rattle.script_answers.specs.Room.{ANSWER, REFUSAL}
 use Rattle.script_answers.specs.Pushed.{BytesCounted}
 use Rattle.script_play.specs.Plays.{lineWith, Unchanged, Played}
 
@@ -70,7 +71,7 @@ pub good-played : (q : Request) (r : Reply) (ns text b l w buffer scratch b′ l
     → callOf q (lineCall (op (nth ns 0)) ns .bytes) 256 512 ≡ lineCall (op (nth ns 0)) ns
     → text ≡ lineCall (op (nth ns 0)) ns .bytes → length buffer ≡ 256 → length scratch ≡ 512
     → Stepped q text r (slices b l w buffer scratch) (slices b′ l′ w′ buffer′ scratch′)
-    → Put 2860 out at (lineOf (number ∷ answerOf (op (q .number)) (replyAnswer r (take (r .count) buffer′)))) out′ n
+    → Put ANSWER out at (lineOf (number ∷ answerOf (op (q .number)) (replyAnswer r (take (r .count) buffer′)))) out′ n
     → Played ns number b l w b′ l′ w′ out at out′ n
 good-played q r ns text b l w buffer scratch b′ l′ w′ buffer′ scratch′ out out′ number at n fits asked t bs ss st put =
     let e : callOf q text (length buffer) (length scratch) ≡ lineCall (op (nth ns 0)) ns = same-call q ns text buffer scratch asked t bs ss in
@@ -83,7 +84,7 @@ good-played q r ns text b l w buffer scratch b′ l′ w′ buffer′ scratch′
           ∙ ap (λ (c : Call). rule (view b l w) c (st .rules .choice)) (sym e) ∙ st .rules .rules;
       bad = λ f. absurd (true≢false (sym fits ∙ f));
       formed = st .rules .formed;
-      wrote = subst (λ (k : ℕ). Put 2860 out at (lineOf (number ∷ answerOf (op k) (replyAnswer r (take (r .count) buffer′)))) out′ n) m put;
+      wrote = subst (λ (k : ℕ). Put ANSWER out at (lineOf (number ∷ answerOf (op k) (replyAnswer r (take (r .count) buffer′)))) out′ n) m put;
     }
 
 -- ---- a bad line
@@ -97,7 +98,7 @@ no-choice = record { object = 0; cap = 0 }
 
 pub bad-played : {ns b l w out out′ : List ℕ} {number at n : ℕ} → WellFormed b l w
     → lineFits (op (nth ns 0)) ns ≡ false
-    → Put 22 out at (lineOf (number ∷ 2 ∷ [])) out′ n
+    → Put REFUSAL out at (lineOf (number ∷ 2 ∷ [])) out′ n
     → Played ns number b l w b l w out at out′ n
 bad-played {ns} {b} {l} {w} {out} {out′} {number} {at} {n} f bad put = record {
   choice = no-choice;
@@ -107,7 +108,7 @@ bad-played {ns} {b} {l} {w} {out} {out′} {number} {at} {n} f bad put = record 
   bad = λ _. record { bytes = refl; links = refl; words = refl };
   formed = f;
   wrote = record {
-    wrote = subst (λ (k : List ℕ). Put 22 out at (lineOf (number ∷ k)) out′ n) (sym (refusal-line (op (nth ns 0)))) put .wrote;
+    wrote = subst (λ (k : List ℕ). Put REFUSAL out at (lineOf (number ∷ k)) out′ n) (sym (refusal-line (op (nth ns 0)))) put .wrote;
     room = omega (arith, put .room);
   };
 }

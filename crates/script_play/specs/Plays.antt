@@ -15,7 +15,9 @@ use Rattle.layout.specs.View.{view}
 use Rattle.layout.specs.WellFormed.{WellFormed}
 use Rattle.script_text.specs.Numeral.{lineOf}
 use Rattle.script_text.specs.Scan.{Means}
+use Rattle.script_text.specs.Lines.{mostNumbers}
 use Rattle.script_text.specs.Pasted.{Put}
+use Rattle.script_answers.specs.Room.{ANSWER}
 
 -- what a line of these numbers comes to, where its call takes the free slots h: the rules' `lineRule` for any h
 unfoldable pub lineWith : Choice → State → List ℕ → Outcome
@@ -43,7 +45,7 @@ pub record Played (ns : List ℕ) (number : ℕ) (b l w b′ l′ w′ out : Lis
   -- "Every call keeps it" well formed
   pub formed : WellFormed b′ l′ w′
   -- the answer's line, from place `at` on
-  pub wrote : Put 2860 out at (lineOf (number ∷ answerOf (op (nth ns 0)) answer)) out′ r
+  pub wrote : Put ANSWER out at (lineOf (number ∷ answerOf (op (nth ns 0)) answer)) out′ r
 
 -- the same of a line as it is written
 pub record Plays (line : List ℕ) (number : ℕ) (b l w b′ l′ w′ out : List ℕ) (at : ℕ) (out′ : List ℕ) (r : ℕ) : Type 0 where
@@ -56,10 +58,10 @@ pub record Plays (line : List ℕ) (number : ℕ) (b l w b′ l′ w′ out : Li
 -- a well-formed store, and room for an answer
 pub record PlayAsks (b l w out : List ℕ) (at : ℕ) : Type 0 where
   pub formed : WellFormed b l w
-  pub room : at + 2860 ≤ length out
+  pub room : at + ANSWER ≤ length out
 
 -- and numbers that fit their call, no more than a line has
 pub record CallAsks (b l w ns out : List ℕ) (at : ℕ) : Type 0 where
   pub play : PlayAsks b l w out at
   pub fits : lineFits (op (nth ns 0)) ns ≡ true
-  pub few : length ns ≤ 1024
+  pub few : length ns ≤ mostNumbers

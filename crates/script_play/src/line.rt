@@ -2,8 +2,10 @@
 ghost use Prim.Native.Nat.{_+_, _≤_};
 ghost use mathlib.Core.List.{[], _∷_};
 ghost use lib.ListN.{length};
+ghost use Rattle.script_text.specs.Lines.{mostNumbers};
 ghost use Rattle.script_text.specs.Numeral.{lineOf};
 ghost use Rattle.script_text.specs.Pasted.{Put};
+ghost use Rattle.script_answers.specs.Room.{REFUSAL};
 ghost use Rattle.script_play.specs.Plays.{PlayAsks, CallAsks, Played, Plays};
 use kernel_step::step;
 use script_answers::answer::answer_line;
@@ -14,12 +16,12 @@ use script_text::read::read_line;
 use script_text::write::put_line;
 
 // "A bad line .. is answered 2".
-fn bad_line(out: &mut [u8], at: usize, number: u32) -> usize
-    requires { ⌜ at + 22 ≤ length (now out) ⌝ }
-    ensures { λ r. ⌜ Put 22 (now (out .entry)) at (lineOf (number ∷ 2 ∷ [])) (now (out .exit)) r ⌝ }
+fn bad_line(out: &mut [u8], at: usize, number: u64) -> usize
+    requires { ⌜ at + REFUSAL ≤ length (now out) ⌝ }
+    ensures { λ r. ⌜ Put REFUSAL (now (out .entry)) at (lineOf (number ∷ 2 ∷ [])) (now (out .exit)) r ⌝ }
 {
-    let numbers = [number, 2u32];
-    put_line(out, at, &numbers)
+    let others = [2u32];
+    put_line(out, at, number, &others)
 }
 
 // The call that a line of these numbers says.
@@ -28,7 +30,7 @@ fn good_line(
     links: &mut [u16],
     words: &mut [u32],
     numbers: &[u32],
-    number: u32,
+    number: u64,
     out: &mut [u8],
     at: usize,
 ) -> usize
@@ -59,11 +61,11 @@ fn play_numbers(
     links: &mut [u16],
     words: &mut [u32],
     numbers: &[u32],
-    number: u32,
+    number: u64,
     out: &mut [u8],
     at: usize,
 ) -> usize
-    requires { ⌜ PlayAsks (now bytes) (now links) (now words) (now out) at ⌝ ∗ ⌜ length (now numbers) ≤ 1024 ⌝ }
+    requires { ⌜ PlayAsks (now bytes) (now links) (now words) (now out) at ⌝ ∗ ⌜ length (now numbers) ≤ mostNumbers ⌝ }
     ensures { λ r. ⌜ Played (now (numbers .entry)) number (now (bytes .entry)) (now (links .entry)) (now (words .entry))
         (now (bytes .exit)) (now (links .exit)) (now (words .exit)) (now (out .entry)) at (now (out .exit)) r ⌝ }
 {
@@ -79,7 +81,7 @@ pub fn play_line(
     links: &mut [u16],
     words: &mut [u32],
     line: &[u8],
-    number: u32,
+    number: u64,
     out: &mut [u8],
     at: usize,
 ) -> usize

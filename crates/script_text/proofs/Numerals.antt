@@ -121,6 +121,10 @@ length-in (suc k) n h = by-bool (ltb n 10)
           (subst (λ (m : ℕ). n < m) (pow-suc 10 (suc k)) h)),
     ))
 
--- no number that fits has more than ten digits
+-- no number of 64 bits has more than twenty digits
+pub long-length : (n : ℕ) → n ≤ 18446744073709551615 → length (numeral n) ≤ 20
+long-length n h = length-in 19 n (omega arith)
+
+-- and none of 32 bits more than ten
 pub numeral-length : (n : ℕ) → n ≤ 4294967295 → length (numeral n) ≤ 10
 numeral-length n h = length-in 9 n (omega arith)

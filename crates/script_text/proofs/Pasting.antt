@@ -10,7 +10,7 @@ use lib.Seq.{take-all, take-length, take-suc, drop-drop, set-split, append-snoc,
 use Rattle.io.specs.Digits.{digits, Fewest}
 use Rattle.script_text.specs.Numeral.{numeral, after, spaced, lineOf}
 use Rattle.script_text.specs.Pasted.{pasted, Wrote, Put}
-use Rattle.script_text.proofs.Numerals.{fewest-digits, numeral-length}
+use Rattle.script_text.proofs.Numerals.{fewest-digits, numeral-length, long-length}
 
 pub wrote-byte : (out : List ℕ) (at b : ℕ) → at < length out → Wrote out at (b ∷ []) (set out at b) (at + 1)
 unfolding pasted
@@ -37,7 +37,7 @@ put-part out text at h =
     ∙ sym (append-assoc (take at out) text (drop (at + length text) out))
 
 -- the digits of n stand in front of buf, of which k are copied
-pub wrote-number : (out buf back : List ℕ) (at n k : ℕ) → at + 10 ≤ length out → Fewest 10 1 n k → take k buf ≡ digits 10 k n
+pub wrote-number : (out buf back : List ℕ) (at n k : ℕ) → at ≤ length out → Fewest 10 1 n k → take k buf ≡ digits 10 k n
     → k ≡ length (take k buf)
     → back ≡ take (length (take k buf)) (take k buf) ++ drop (length (take k buf)) (take (length out - at) (drop at out))
     → Wrote out at (numeral n) (take at out ++ (back ++ drop (length out - at) (drop at out))) (at + k)
@@ -45,17 +45,17 @@ wrote-number out buf back at n k room few is long e =
     let text : take k buf ≡ numeral n = is ∙ fewest-digits k n few in
     record {
       is = ap (λ (l : List ℕ). take at out ++ (l ++ drop (length out - at) (drop at out))) e
-          ∙ put-part out (take k buf) at (omega arith) ∙ ap (pasted out at) text;
+          ∙ put-part out (take k buf) at room ∙ ap (pasted out at) text;
       end = ap (λ (m : ℕ). at + m) (long ∙ ap length text);
     }
 
--- there is room for them
-pub number-places : (buf : List ℕ) (n k : ℕ) → n ≤ 4294967295 → Fewest 10 1 n k → take k buf ≡ digits 10 k n
-    → k ≡ length (take k buf) → k ≤ 10
-number-places buf n k fits few is long = omega (arith, long, ap length (is ∙ fewest-digits k n few), numeral-length n fits)
+-- they are as many
+pub number-places : (buf : List ℕ) (n k : ℕ) → Fewest 10 1 n k → take k buf ≡ digits 10 k n
+    → k ≡ length (take k buf) → k ≡ length (numeral n)
+number-places buf n k few is long = long ∙ ap length (is ∙ fewest-digits k n few)
 
-pub part-room : (out : List ℕ) (at m : ℕ) → at + 10 ≤ length out → m ≤ 10 → m ≤ length (take (length out - at) (drop at out))
-part-room out at m room h =
+pub part-room : (out : List ℕ) (at m n : ℕ) → at + n ≤ length out → m ≡ n → m ≤ length (take (length out - at) (drop at out))
+part-room out at m n room h =
     let all : take (length out - at) (drop at out) ≡ drop at out =
     take-all (length out - at) (drop at out) (omega (arith, length-drop at out)) in
     omega (arith, ap length all, length-drop at out)
@@ -147,28 +147,12 @@ putting-all out₀ at ns out p i g h = record {
   room = omega (arith, g .room, g .within);
 }
 
-others-length : (ns : List ℕ) → length (take (length ns - 1) (drop 1 ns)) ≡ length ns - 1
-others-length ns = length-take-le (length ns - 1) (drop 1 ns) (omega (arith, length-drop 1 ns))
-
-pub others-room : (ns : List ℕ) (at p : ℕ) {m n : ℕ} → p ≤ at + 10 → m ≡ n → 1 ≤ length ns → at + 11 * length ns ≤ n
-    → p + 11 * length (take (length ns - 1) (drop 1 ns)) ≤ m
-others-room ns at p first same some room = omega (arith, others-length ns)
-
-pub end-room : (ns : List ℕ) (at p q : ℕ) {m n : ℕ} → p ≤ at + 10 → q ≤ p + 11 * length (take (length ns - 1) (drop 1 ns))
-    → m ≡ n → 1 ≤ length ns → at + 11 * length ns ≤ n → q < m
-end-room ns at p q first others same some room = omega (arith, others-length ns)
-
--- the first of ns, the others each with a space before it, and the line's end
-pub put-all : (out : List ℕ) (at : ℕ) (ns one two out′ : List ℕ) (p q r : ℕ) → 1 ≤ length ns → at ≤ length out
-    → Put 10 out at (numeral (getD ns 0 0)) one p
-    → Put (11 * length (take (length ns - 1) (drop 1 ns))) one p (after (take (length ns - 1) (drop 1 ns))) two q
-    → Wrote two q (10 ∷ []) out′ r → Put (11 * length ns) out at (lineOf ns) out′ r
+-- the first number, the others each with a space before it, and the line's end
+pub put-all : (out : List ℕ) (at n : ℕ) (ns one two out′ : List ℕ) (p q r : ℕ) → n ≤ 18446744073709551615 → at ≤ length out
+    → Wrote out at (numeral n) one p → Put (11 * length ns) one p (after ns) two q
+    → Wrote two q (10 ∷ []) out′ r → Put (21 + 11 * length ns) out at (lineOf (n ∷ ns)) out′ r
 unfolding spaced lineOf
-put-all out at [] one two out′ p q r some h first others end = absurd (omega arith)
-put-all out at (n ∷ ns) one two out′ p q r some h first others end =
-    let all : take (suc (length ns) - 1) ns ≡ ns = take-all (suc (length ns) - 1) ns (omega arith) in
-    record {
-      wrote = subst (λ (l : List ℕ). Wrote out at ((numeral n ++ after l) ++ (10 ∷ [])) out′ r) all
-          (wrote-then (wrote-then (first .wrote) (others .wrote) h) end h);
-      room = omega (arith, first .room, others .room, end .end, ap length all);
-    }
+put-all out at n ns one two out′ p q r fits h first others end = record {
+  wrote = wrote-then (wrote-then first (others .wrote) h) end h;
+  room = omega (arith, long-length n fits, first .end, others .room, end .end);
+}

@@ -7,6 +7,14 @@ use mathlib.Core.List.{List, [], _∷_}
 use lib.Dec.{eqb}
 use lib.ListN.{take, drop}
 
+-- "lines of at most 2,048 bytes"
+abbrev pub longest : ℕ
+longest = 2048
+
+-- no line has more numbers: each has a digit, and a byte after it but for the last
+abbrev pub mostNumbers : ℕ
+mostNumbers = 1024
+
 -- a byte in front of the first line
 unfoldable pub joined : ℕ → List (List ℕ) → List (List ℕ)
 joined b [] = (b ∷ []) ∷ []

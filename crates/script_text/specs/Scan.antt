@@ -6,6 +6,7 @@ use mathlib.Core.List.{List, [], _∷_}
 use lib.Dec.{eqb, leb}
 use lib.ListN.{length, take, drop}
 use Rattle.script_text.specs.Numeral.{Says}
+use Rattle.script_text.specs.Lines.{longest}
 use Rattle.script_text.specs.declared.read.Number.{Number}
 use Rattle.script_text.specs.declared.read.Read.{Read}
 
@@ -69,8 +70,8 @@ pub record ReadIs (line out out′ : List ℕ) (r : Read) : Type 0 where
 
 -- a line of at most 2,048 bytes has the numbers that it says; a bad one, or a longer one, has none
 pub data Means (line : List ℕ) : List ℕ → Type 0 where
-  good : {ns : List ℕ} → length line ≤ 2048 → Says line ns → Means line ns
-  bad : (length line ≤ 2048 → (ns : List ℕ) → Says line ns → ⊥) → Means line []
+  good : {ns : List ℕ} → length line ≤ longest → Says line ns → Means line ns
+  bad : (length line ≤ longest → (ns : List ℕ) → Says line ns → ⊥) → Means line []
 
 -- they stand at the front of `out`; what the cells after them hold is open
 pub record LineIs (line out out′ : List ℕ) (r : ℕ) : Type 0 where

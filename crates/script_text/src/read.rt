@@ -2,8 +2,10 @@
 ghost use Prim.Native.Nat.{_≤_};
 ghost use mathlib.Core.Path.{_≡_};
 ghost use lib.ListN.{length};
+ghost use Rattle.script_text.specs.Lines.{mostNumbers};
 ghost use Rattle.script_text.specs.Scan.{ScanOnIs, NumberAt, ReadIs, LineIs};
 ghost use Rattle.script_text.specs.Scan.{isDigit, extends as Scan·extends};
+use crate::lines::LONGEST;
 
 // A number, and the place after it.
 struct Number {
@@ -114,10 +116,10 @@ pub fn read_numbers(line: &[u8], out: &mut [u32]) -> Read
 
 // The numbers that a line has, into the front of `out`, and how many they are: none of a bad line.
 pub fn read_line(line: &[u8], out: &mut [u32]) -> usize
-    requires { ⌜ 1024 ≤ length (now out) ⌝ }
+    requires { ⌜ mostNumbers ≤ length (now out) ⌝ }
     ensures { λ r. ⌜ LineIs (now (line .entry)) (now (out .entry)) (now (out .exit)) r ⌝ }
 {
-    if line.len() > 2048 {
+    if line.len() > LONGEST {
         return 0;
     }
     let read = read_numbers(line, out);

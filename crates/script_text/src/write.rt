@@ -14,15 +14,23 @@ pub fn put_byte(out: &mut [u8], at: usize, b: u8) -> usize
     at + 1
 }
 
-// The digits of n, of which there are ten at most.
+// The digits of n.
+pub fn put_digits(out: &mut [u8], at: usize, n: u64) -> usize
+    requires { ⌜ at + length (numeral n) ≤ length (now out) ⌝ }
+    ensures { λ r. ⌜ Wrote (now (out .entry)) at (numeral n) (now (out .exit)) r ⌝ }
+{
+    let mut text = [0u8; 20];
+    let k = io::decimal(n, &mut text);
+    bytes::copy(&text[..k], &mut out[at..]);
+    at + k
+}
+
+// The same of a number of 32 bits, whose digits are ten at most.
 pub fn put_number(out: &mut [u8], at: usize, n: u32) -> usize
     requires { ⌜ at + 10 ≤ length (now out) ⌝ }
     ensures { λ r. ⌜ Put 10 (now (out .entry)) at (numeral n) (now (out .exit)) r ⌝ }
 {
-    let mut text = [0u8; 20];
-    let k = io::decimal(n as u64, &mut text);
-    bytes::copy(&text[..k], &mut out[at..]);
-    at + k
+    put_digits(out, at, n as u64)
 }
 
 // Each number with a space before it.
@@ -40,12 +48,12 @@ pub fn put_after(out: &mut [u8], at: usize, numbers: &[u32]) -> usize
     p
 }
 
-// A line of numbers, and its end.
-pub fn put_line(out: &mut [u8], at: usize, numbers: &[u32]) -> usize
-    requires { ⌜ 1 ≤ length (now numbers) ⌝ ∗ ⌜ at + 11 * length (now numbers) ≤ length (now out) ⌝ }
-    ensures { λ r. ⌜ Put (11 * length (now (numbers .entry))) (now (out .entry)) at (lineOf (now (numbers .entry))) (now (out .exit)) r ⌝ }
+// A line of numbers, and its end. The first may be a line's own number, whose digits are twenty at most.
+pub fn put_line(out: &mut [u8], at: usize, first: u64, others: &[u32]) -> usize
+    requires { ⌜ at + (21 + 11 * length (now others)) ≤ length (now out) ⌝ }
+    ensures { λ r. ⌜ Put (21 + 11 * length (now (others .entry))) (now (out .entry)) at (lineOf (first ∷ now (others .entry))) (now (out .exit)) r ⌝ }
 {
-    let p = put_number(out, at, numbers[0]);
-    let q = put_after(out, p, &numbers[1..]);
+    let p = put_digits(out, at, first);
+    let q = put_after(out, p, others);
     put_byte(out, q, 10)
 }

@@ -7,6 +7,7 @@ use crate::ended::put_all_ended;
 use crate::output::put;
 use crate::output::put_number;
 use crate::state::Run;
+use script_answers::answer::ANSWER;
 use script_play::line::play_line;
 use script_play::start::start;
 use script_text::lines::line_end;
@@ -27,8 +28,8 @@ fn silent_line(bytes: &mut [u8], links: &mut [u16], words: &mut [u32], line: &[u
     requires { ⌜ WellFormed (now bytes) (now links) (now words) ⌝ }
     ensures { λ _. ⌜ WellFormed (now (bytes .exit)) (now (links .exit)) (now (words .exit)) ⌝ }
 {
-    let mut answer = [0u8; 2860];
-    play_line(bytes, links, words, line, number, &mut answer, 0);
+    let mut answer = [0u8; ANSWER];
+    play_line(bytes, links, words, line, number as u64, &mut answer, 0);
 }
 
 // The line's number and its call, and what it ended, if it ended anything.

@@ -17,21 +17,21 @@ answer-numbers-requires c κs = search needs
 array-share-prefix-numbers : tie.Need-array-share-prefix-numbers
 array-share-prefix-numbers c = search needs
 
--- the array has 260 cells
-few : (c : tie.After-answer-numbers) → c .answer-numbers .result ≤ 260
+-- the array has 259 cells
+few : (c : tie.After-answer-numbers) → c .answer-numbers .result ≤ 259
 few c = omega (arith, c .answer-numbers .ensures .within, c .answer-numbers .kept .0)
 
 slice-aggregate-put-line : tie.Need-slice-aggregate-put-line
 slice-aggregate-put-line c = sym (length-take-le _ _ (c .before .before .before .answer-numbers .ensures .within))
 
 put-line-requires : tie.Need-put-line-requires
-put-line-requires c κs = line-room _ _ _ _ _ _ _ (c .before .before .before .answer-numbers .ensures) (few (c .before .before .before)) (c .before .before .before .before .before .before .before .pre .1)
+put-line-requires c κs = line-room _ _ _ _ _ _ (c .before .before .before .answer-numbers .ensures) (few (c .before .before .before)) (c .before .before .before .before .before .before .before .pre .1)
 
 same-length : tie.Need-same-length
 same-length c = search needs
 
 returns : tie.Need-returns
-returns c = line-pushed _ _ _ _ _ _ _ _ (c .before .before .before .before .before .before .answer-numbers .ensures) (few (c .before .before .before .before .before .before)) (c .before .before .put-line .ensures)
+returns c = line-pushed _ _ _ _ _ _ _ _ _ (c .before .before .before .before .before .before .answer-numbers .ensures) (few (c .before .before .before .before .before .before)) (c .before .before .put-line .ensures)
 
 pub answer-line-spec : {M : Type 1} → statement M
 answer-line-spec =

@@ -1,4 +1,4 @@
--- `answer_numbers` is the rules' `answerOf`, after the line's number.
+-- `answer_numbers` is the rules' `answerOf`.
 use lib.ListN.{take}
 use denote.Ref.{now}
 use Rattle.rules.specs.Rights.{op}
@@ -8,8 +8,8 @@ use borrow.Author.Needs.{needs}
 use Rattle.script_answers.proofs.answer.answer_numbers.Statement.{statement}
 use Rattle.script_answers.proofs.answer.answer_numbers.Tie as tie
 
-push-two-requires : tie.Need-push-two-requires
-push-two-requires c κs = search needs
+push-requires : tie.Need-push-requires
+push-requires c κs = search needs
 
 push-results-requires : tie.Need-push-results-requires
 push-results-requires c κs = search needs
@@ -20,16 +20,16 @@ same-length c = search needs
 returns : tie.Need-returns
 unfolding answerOf
 returns c =
-    answered-done _ (op (c .before .before .before .before .before .before .before .before .before .before .before .args .number)) (answerOf (c .before .before .before .before .before .before .before .before .before .before .before .args .reply) (take (c .before .before .before .before .before .before .before .before .before .before .before .args .reply .count) (now (c .before .before .before .before .before .before .before .before .before .before .before .args .buffer)))) (c .before .before .before .before .before .before .before .push-two .ensures) (c .before .before .push-results .ensures) (c .before .before .before .before .if1 .taken)
+    answered-done (op (c .before .before .before .before .before .before .before .before .before .before .before .args .number)) (answerOf (c .before .before .before .before .before .before .before .before .before .before .before .args .reply) (take (c .before .before .before .before .before .before .before .before .before .before .before .args .reply .count) (now (c .before .before .before .before .before .before .before .before .before .before .before .args .buffer)))) (c .before .before .before .before .before .before .before .push .ensures) (c .before .before .push-results .ensures) (c .before .before .before .before .if1 .taken)
 
 same-length-2 : tie.Need-same-length-2
 same-length-2 c = search needs
 
 returns-2 : tie.Need-returns-2
 unfolding answerOf
-returns-2 c = answered-refused _ (op (c .before .before .before .before .before .before .before .args .number)) (answerOf (c .before .before .before .before .before .before .before .args .reply) (take (c .before .before .before .before .before .before .before .args .reply .count) (now (c .before .before .before .before .before .before .before .args .buffer)))) (c .before .before .before .push-two .ensures) (c .if1 .left)
+returns-2 c = answered-refused (op (c .before .before .before .before .before .before .before .args .number)) (answerOf (c .before .before .before .before .before .before .before .args .reply) (take (c .before .before .before .before .before .before .before .args .reply .count) (now (c .before .before .before .before .before .before .before .args .buffer)))) (c .before .before .before .push .ensures) (c .if1 .left)
 
 pub answer-numbers-spec : {M : Type 1} → statement M
 answer-numbers-spec =
     tie.close
-    (tie.spec push-two-requires push-results-requires same-length returns same-length-2 returns-2)
+    (tie.spec push-requires push-results-requires same-length returns same-length-2 returns-2)
