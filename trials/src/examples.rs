@@ -59,11 +59,12 @@ fn list_of_lists(lists: &[Vec<u32>]) -> String {
     format!("      {}", rows.join("\n      ∷ "))
 }
 
-/// The file of definitions: all examples, their list, and what a computing theorem unfolds.
-/// None if an example's text is not made of lines of numbers.
+/// The file of definitions: all examples but 01's script, which the rules have already, their list, and
+/// what a computing theorem unfolds. None if an example's text is not made of lines of numbers.
 pub fn definitions() -> Option<String> {
-    let each: Option<Vec<String>> = EXAMPLES.iter().map(Example::definition).collect();
-    let names: Vec<&str> = EXAMPLES.iter().map(|example| example.name).collect();
+    let others = &EXAMPLES[1..];
+    let each: Option<Vec<String>> = others.iter().map(Example::definition).collect();
+    let names: Vec<&str> = others.iter().map(|example| example.name).collect();
     Some(format!(
         "-- Scripts answered by the reference; made by `script-table`, not edited by hand.\n\
          use Prim.Native.Nat.{{ℕ}}\n\

@@ -18,6 +18,7 @@ pub mod Theorems
 pub mod Meaning
 pub mod Blind
 pub mod Taken
+pub mod Fields
 pub mod Script
 pub mod Edges
 pub mod Scripts

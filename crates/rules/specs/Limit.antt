@@ -59,3 +59,7 @@ top = 2147483648
 -- the largest 32-bit number: "the money total is at most 4,294,967,295"
 abbrev pub word : ℕ
 word = 4294967295
+
+-- a byte, of write and of send, as a number of a line
+abbrev pub byte : ℕ
+byte = 255

@@ -1,6 +1,6 @@
 -- 01, "Rights and fees": the thirteen rights, the sixteen calls in call order, their fees, and the right each asks.
 use Prim.Native.Nat.{ℕ, zero, suc}
-use mathlib.Core.Bool.{Bool, true, false}
+use mathlib.Core.Bool.{Bool, not}
 use mathlib.Core.List.{List, [], _∷_}
 use lib.Dec.{eqb}
 use lib.ListN.{getD}
@@ -103,23 +103,8 @@ asked unknown = 0
 
 -- the call presents a capability
 unfoldable pub presents : Op → Bool
-presents makeObj = false
-presents read = true
-presents write = true
-presents capInfo = true
-presents deriveCap = true
-presents deleteCap = true
-presents renameObj = true
-presents withdraw = true
-presents deposit = true
-presents suspend = true
-presents resume = true
-presents applyLock = true
-presents send = true
-presents receive = false
-presents wait = false
-presents revive = true
-presents unknown = false
+unfolding asked
+presents o = not (eqb (asked o) 0)
 
 -- a theorem that computes with this file's definitions says `unfolding` and this name
 unfoldable pub computes : Unit {0}

@@ -17,6 +17,7 @@ use Rattle.rules.specs.Update as Update
 use Rattle.rules.specs.Changes as Changes
 use Rattle.rules.specs.Calls as Calls
 use Rattle.rules.specs.Rule as Rule
+use Rattle.rules.specs.Fields as Fields
 use Rattle.rules.specs.Slots.{find, any}
 use Rattle.rules.specs.Store.{Password, State, capLives, allCash, allMasters, allBoxes, fresh}
 use Rattle.rules.specs.Rights.{Op, makeObj, read, write, capInfo, deriveCap, deleteCap, renameObj, withdraw}
@@ -26,88 +27,61 @@ use Rattle.rules.specs.Password.{presented}
 use Rattle.rules.specs.Refusals.{caller}
 use Rattle.rules.specs.Calls.{emptied}
 use Rattle.rules.specs.Rule.{rule}
+use Rattle.rules.specs.Fields.{Field, callerVolume, callerSerial, capVolume, capSerial, capP1, capP2, volume, size, flag}
+use Rattle.rules.specs.Fields.{rights, serial, p1, p2, start, end, sum, word1, word2, bytes, fields, place}
 
 -- ---- a line: call number, caller's volume and serial, the capability (volume, serial, p1, p2) where one is presented,
--- then arguments
-
--- bytes are 0 to 255
-unfoldable pub areBytes : List ℕ → Bool
-areBytes l = not (any (λ b. ltb 255 b) l)
-
--- a line of the call has so many numbers
-unfoldable pub lineFits : Op → List ℕ → Bool
--- volume, size, flag, rights, serial, p1, p2
-lineFits makeObj l = eqb (length l) 10
--- start, end
-lineFits read l = eqb (length l) 9
--- the same and bytes
-lineFits write l = leb 9 (length l) && areBytes (drop 9 l)
-lineFits capInfo l = eqb (length l) 7
--- mask, start, end, p1, p2
-lineFits deriveCap l = eqb (length l) 12
-lineFits deleteCap l = eqb (length l) 7
--- p1, p2
-lineFits renameObj l = eqb (length l) 9
--- sum
-lineFits withdraw l = eqb (length l) 8
-lineFits deposit l = eqb (length l) 8
-lineFits suspend l = eqb (length l) 7
-lineFits resume l = eqb (length l) 7
--- two words
-lineFits applyLock l = eqb (length l) 9
--- sum, bytes
-lineFits send l = leb 8 (length l) && areBytes (drop 8 l)
-lineFits receive l = eqb (length l) 3
-lineFits wait l = eqb (length l) 3
--- sum
-lineFits revive l = eqb (length l) 8
-lineFits unknown l = false
+-- then arguments; `fields` says which
 
 -- the i-th number of a list, counted from 0
 abbrev pub nth : List ℕ → ℕ → ℕ
 nth l i = getD l i 0
 
--- a call with these arguments: made is volume, size, flag, rights, serial, p1, p2; range is start, end; lock two words
-unfoldable pub callWith : List ℕ → List ℕ → List ℕ → ℕ → List ℕ → List ℕ → Call
-callWith line made range sum lock bytes = record {
-  number = nth line 0;
-  caller = record { volume = nth line 1; serial = nth line 2 };
-  presented = record {
-    name = record { volume = nth line 3; serial = nth line 4 };
-    password = record { p1 = nth line 5; p2 = nth line 6 };
-  };
-  name = record { volume = nth made 0; serial = nth made 4 };
-  size = nth made 1;
-  flag = nth made 2;
-  rights = nth made 3;
-  drawn = record { p1 = nth made 5; p2 = nth made 6 };
-  range = record { start = nth range 0; end = nth range 1 };
-  sum = sum;
-  lock = record { first = nth lock 0; second = nth lock 1 };
-  bytes = bytes;
-  buffer = 256;
-  scratch = 512;
-}
+-- bytes are 0 to 255
+unfoldable pub areBytes : List ℕ → Bool
+areBytes l = not (any (λ b. ltb Limit.byte b) l)
+
+-- a line of the call has as many numbers as fields, or, where it goes on with bytes, the numbers before them and bytes
+unfoldable pub lineFits : Op → List ℕ → Bool
+lineFits o [] = false
+lineFits o (n ∷ l) = elim (eqb (place o bytes) 0) [
+  | true ↦ eqb (length (n ∷ l)) (length (fields o))
+  | false ↦ leb (place o bytes) (length (n ∷ l)) && areBytes (drop (place o bytes) (n ∷ l))
+]
+
+-- the number at a field's place; 0 where the line does not have the field
+unfoldable pub numberAt : List ℕ → ℕ → ℕ
+numberAt l p = elim (eqb p 0) [ true ↦ 0 | false ↦ nth l p ]
+
+-- the numbers from the place of `bytes` on
+unfoldable pub bytesAt : List ℕ → ℕ → List ℕ
+bytesAt l p = elim (eqb p 0) [ true ↦ [] | false ↦ drop p l ]
+
+-- what a line says in a field
+abbrev pub said : Op → List ℕ → Field → ℕ
+said o l f = numberAt l (place o f)
 
 -- the call that a line of fitting length says
 unfoldable pub callOf : Op → List ℕ → Call
-callOf makeObj l = callWith l (drop 3 l) [] 0 [] []
-callOf read l = callWith l [] (drop 7 l) 0 [] []
-callOf write l = callWith l [] (drop 7 l) 0 [] (drop 9 l)
-callOf capInfo l = callWith l [] [] 0 [] []
-callOf deriveCap l = callWith l (0 ∷ 0 ∷ 0 ∷ nth l 7 ∷ 0 ∷ drop 10 l) (drop 8 l) 0 [] []
-callOf deleteCap l = callWith l [] [] 0 [] []
-callOf renameObj l = callWith l (0 ∷ 0 ∷ 0 ∷ 0 ∷ 0 ∷ drop 7 l) [] 0 [] []
-callOf withdraw l = callWith l [] [] (nth l 7) [] []
-callOf deposit l = callWith l [] [] (nth l 7) [] []
-callOf suspend l = callWith l [] [] 0 [] []
-callOf resume l = callWith l [] [] 0 [] []
-callOf applyLock l = callWith l [] [] 0 (drop 7 l) []
-callOf send l = callWith l [] [] (nth l 7) [] (drop 8 l)
-callOf receive l = callWith l [] [] 0 [] []
-callOf wait l = callWith l [] [] 0 [] []
-callOf revive l = callWith l [] [] (nth l 7) [] []
-callOf unknown l = callWith l [] [] 0 [] []
+callOf o l = record {
+  number = nth l 0;
+  caller = record { volume = said o l callerVolume; serial = said o l callerSerial };
+  presented = record {
+    name = record { volume = said o l capVolume; serial = said o l capSerial };
+    password = record { p1 = said o l capP1; p2 = said o l capP2 };
+  };
+  name = record { volume = said o l volume; serial = said o l serial };
+  size = said o l size;
+  flag = said o l flag;
+  rights = said o l rights;
+  drawn = record { p1 = said o l p1; p2 = said o l p2 };
+  range = record { start = said o l start; end = said o l end };
+  sum = said o l sum;
+  lock = record { first = said o l word1; second = said o l word2 };
+  bytes = bytesAt l (place o bytes);
+  buffer = Limit.buffer;
+  scratch = Limit.scratch;
+}
 
 -- ---- the numbers of an answer: 0 or the refusal, then results
 
@@ -234,6 +208,6 @@ example = record {
 -- a theorem that computes with the rules says `unfolding` and this name
 unfoldable pub computes : Unit {0}
 unfolding Slots.computes Store.computes Rights.computes Call.computes Password.computes Refusals.computes
-    Update.computes Changes.computes Calls.computes Rule.computes areBytes lineFits callWith callOf written
+    Update.computes Changes.computes Calls.computes Rule.computes Fields.computes areBytes lineFits numberAt bytesAt callOf written
     results answerOf freed lastFree lineRule totals play writes says example
 computes = tt

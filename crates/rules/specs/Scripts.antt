@@ -3,33 +3,6 @@ use Prim.Native.Nat.{ℕ}
 use mathlib.Core.List.{List, [], _∷_}
 use Rattle.rules.specs.Script.{Example}
 
--- the script of 01
-unfoldable pub example : Example
-example = record {
-  supply = 1000;
-  p1 = 5;
-  p2 = 9;
-  lines =
-      (1 ∷ 0 ∷ 1 ∷ 2 ∷ 128 ∷ 0 ∷ 8191 ∷ 7 ∷ 11 ∷ 13 ∷ [])
-      ∷ (5 ∷ 0 ∷ 1 ∷ 2 ∷ 7 ∷ 11 ∷ 13 ∷ 3 ∷ 64 ∷ 500 ∷ 21 ∷ 22 ∷ [])
-      ∷ (2 ∷ 0 ∷ 1 ∷ 2 ∷ 7 ∷ 21 ∷ 22 ∷ 63 ∷ 65 ∷ [])
-      ∷ (9 ∷ 0 ∷ 1 ∷ 2 ∷ 7 ∷ 11 ∷ 13 ∷ 100 ∷ [])
-      ∷ (4 ∷ 0 ∷ 1 ∷ 2 ∷ 7 ∷ 21 ∷ 22 ∷ [])
-      ∷ (6 ∷ 0 ∷ 1 ∷ 2 ∷ 7 ∷ 11 ∷ 13 ∷ [])
-      ∷ (2 ∷ 0 ∷ 1 ∷ 2 ∷ 7 ∷ 21 ∷ 22 ∷ 64 ∷ 65 ∷ [])
-      ∷ [];
-  answers =
-      (0 ∷ 2 ∷ 7 ∷ 11 ∷ 13 ∷ [])
-      ∷ (0 ∷ 2 ∷ 7 ∷ 21 ∷ 22 ∷ [])
-      ∷ (7 ∷ [])
-      ∷ (0 ∷ [])
-      ∷ (6 ∷ [])
-      ∷ (0 ∷ [])
-      ∷ (5 ∷ [])
-      ∷ [];
-  totals = 865 ∷ 0 ∷ 0 ∷ 135 ∷ [];
-}
-
 -- a middle sibling deleted, its siblings and their children spared; then the master
 unfoldable pub siblings : Example
 siblings = record {
@@ -712,10 +685,10 @@ arguments = record {
 }
 
 unfoldable pub scripts : List Example
-scripts = example ∷ siblings ∷ windows ∷ purses ∷ overflow ∷ locks ∷ reuse ∷ itself ∷ ending ∷ mail ∷ poverty ∷ revival ∷ renaming ∷ rights ∷ blocks ∷ arguments ∷ []
+scripts = siblings ∷ windows ∷ purses ∷ overflow ∷ locks ∷ reuse ∷ itself ∷ ending ∷ mail ∷ poverty ∷ revival ∷ renaming ∷ rights ∷ blocks ∷ arguments ∷ []
 
 -- what a theorem that computes with these tables unfolds
 unfoldable pub computes : Unit {0}
-unfolding example siblings windows purses overflow locks reuse itself ending mail poverty revival renaming rights
+unfolding siblings windows purses overflow locks reuse itself ending mail poverty revival renaming rights
     blocks arguments scripts
 computes = tt

@@ -8,6 +8,7 @@ use lib.Dec.{leb}
 use lib.ListN.{length, getD}
 use borrow.Author.Tests.{leb-true}
 use Rattle.rules.specs.Script as Script
+use Rattle.rules.specs.Script.{example}
 use Rattle.rules.proofs.Tests.{all2}
 use Rattle.script_text.specs.Numeral as Numeral
 use Rattle.script_text.specs.Numeral.{spaced, Says}
@@ -18,7 +19,7 @@ use Rattle.script_text.proofs.Sayings.{means-same}
 use Rattle.script_answers.specs.Output as Output
 use Rattle.script_answers.specs.Output.{output, MeanAll, none, more, Writes}
 use Rattle.script_answers.specs.Example as Example
-use Rattle.script_answers.specs.Example.{exampleScript, exampleText}
+use Rattle.script_answers.specs.Example.{linesIn, exampleScript, exampleText}
 
 -- ---- one text
 
@@ -32,19 +33,6 @@ writes-same script t u a b =
     a .is ∙ ap output (mean-same (linesOf script) (a .numbers) (b .numbers) (a .means) (b .means)) ∙ sym (b .is)
 
 -- ---- 01's script
-
--- the numbers of its lines
-unfoldable numbers : List (List ℕ)
-numbers =
-    (1000 ∷ 5 ∷ 9 ∷ [])
-    ∷ (1 ∷ 0 ∷ 1 ∷ 2 ∷ 128 ∷ 0 ∷ 8191 ∷ 7 ∷ 11 ∷ 13 ∷ [])
-    ∷ (5 ∷ 0 ∷ 1 ∷ 2 ∷ 7 ∷ 11 ∷ 13 ∷ 3 ∷ 64 ∷ 500 ∷ 21 ∷ 22 ∷ [])
-    ∷ (2 ∷ 0 ∷ 1 ∷ 2 ∷ 7 ∷ 21 ∷ 22 ∷ 63 ∷ 65 ∷ [])
-    ∷ (9 ∷ 0 ∷ 1 ∷ 2 ∷ 7 ∷ 11 ∷ 13 ∷ 100 ∷ [])
-    ∷ (4 ∷ 0 ∷ 1 ∷ 2 ∷ 7 ∷ 21 ∷ 22 ∷ [])
-    ∷ (6 ∷ 0 ∷ 1 ∷ 2 ∷ 7 ∷ 11 ∷ 13 ∷ [])
-    ∷ (2 ∷ 0 ∷ 1 ∷ 2 ∷ 7 ∷ 21 ∷ 22 ∷ 64 ∷ 65 ∷ [])
-    ∷ []
 
 small : List ℕ → Bool
 small [] = true
@@ -62,12 +50,12 @@ said : (line ns : List ℕ) → line ≡ spaced ns → leb (length line) 2048 �
 said line ns e short some fits = good (leb-true _ _ short)
     (record { text = e; some = leb-true _ _ some; fits = fit ns fits })
 
-example-output : exampleText ≡ output numbers
-unfolding numbers Script.computes Numeral.computes Output.computes Example.computes
+example-output : exampleText ≡ output (linesIn example)
+unfolding Script.computes Numeral.computes Output.computes Example.computes
 example-output = refl
 
-example-means : MeanAll (linesOf exampleScript) numbers
-unfolding numbers small Numeral.computes Lines.computes Example.computes
+example-means : MeanAll (linesOf exampleScript) (linesIn example)
+unfolding small Script.computes Numeral.computes Lines.computes Example.computes
 example-means =
     more (said _ _ refl refl refl refl)
     (more (said _ _ refl refl refl refl)
@@ -80,4 +68,4 @@ example-means =
     none)))))))
 
 pub example-writes : Writes exampleScript exampleText
-example-writes = record { numbers = numbers; means = example-means; is = example-output }
+example-writes = record { numbers = linesIn example; means = example-means; is = example-output }

@@ -1,48 +1,32 @@
 -- 01's script and what it writes, in bytes.
-use Prim.Native.Nat.{ℕ}
+use Prim.Native.Nat.{ℕ, suc}
 use mathlib.Core.List.{List, [], _∷_, _++_}
+use Rattle.rules.specs.Script.{Example, example}
+use Rattle.script_text.specs.Numeral.{after, lineOf}
+
+-- line one is supply, p1, p2
+unfoldable pub linesIn : Example → List (List ℕ)
+linesIn e = (e .supply ∷ e .p1 ∷ e .p2 ∷ []) ∷ e .lines
+
+-- lines of numbers, one after another
+unfoldable pub textOf : List (List ℕ) → List ℕ
+textOf [] = []
+textOf (l ∷ ls) = lineOf l ++ textOf ls
+
+-- each with its number before it, the first with k
+unfoldable pub numbered : ℕ → List (List ℕ) → List (List ℕ)
+numbered k [] = []
+numbered k (l ∷ ls) = (k ∷ l) ∷ numbered (suc k) ls
 
 -- the script of 01
 unfoldable pub exampleScript : List ℕ
-exampleScript =
-    -- 1000 5 9
-    (49 ∷ 48 ∷ 48 ∷ 48 ∷ 32 ∷ 53 ∷ 32 ∷ 57 ∷ 10 ∷ [])
-    -- 1 0 1 2 128 0 8191 7 11 13
-    ++ (49 ∷ 32 ∷ 48 ∷ 32 ∷ 49 ∷ 32 ∷ 50 ∷ 32 ∷ 49 ∷ 50 ∷ 56 ∷ 32 ∷ 48 ∷ 32 ∷ 56 ∷ 49 ∷ 57 ∷ 49 ∷ 32 ∷ 55 ∷ 32 ∷ 49 ∷ 49 ∷ 32 ∷ 49 ∷ 51 ∷ 10 ∷ [])
-    -- 5 0 1 2 7 11 13 3 64 500 21 22
-    ++ (53 ∷ 32 ∷ 48 ∷ 32 ∷ 49 ∷ 32 ∷ 50 ∷ 32 ∷ 55 ∷ 32 ∷ 49 ∷ 49 ∷ 32 ∷ 49 ∷ 51 ∷ 32 ∷ 51 ∷ 32 ∷ 54 ∷ 52 ∷ 32 ∷ 53 ∷ 48 ∷ 48 ∷ 32 ∷ 50 ∷ 49 ∷ 32 ∷ 50 ∷ 50 ∷ 10 ∷ [])
-    -- 2 0 1 2 7 21 22 63 65
-    ++ (50 ∷ 32 ∷ 48 ∷ 32 ∷ 49 ∷ 32 ∷ 50 ∷ 32 ∷ 55 ∷ 32 ∷ 50 ∷ 49 ∷ 32 ∷ 50 ∷ 50 ∷ 32 ∷ 54 ∷ 51 ∷ 32 ∷ 54 ∷ 53 ∷ 10 ∷ [])
-    -- 9 0 1 2 7 11 13 100
-    ++ (57 ∷ 32 ∷ 48 ∷ 32 ∷ 49 ∷ 32 ∷ 50 ∷ 32 ∷ 55 ∷ 32 ∷ 49 ∷ 49 ∷ 32 ∷ 49 ∷ 51 ∷ 32 ∷ 49 ∷ 48 ∷ 48 ∷ 10 ∷ [])
-    -- 4 0 1 2 7 21 22
-    ++ (52 ∷ 32 ∷ 48 ∷ 32 ∷ 49 ∷ 32 ∷ 50 ∷ 32 ∷ 55 ∷ 32 ∷ 50 ∷ 49 ∷ 32 ∷ 50 ∷ 50 ∷ 10 ∷ [])
-    -- 6 0 1 2 7 11 13
-    ++ (54 ∷ 32 ∷ 48 ∷ 32 ∷ 49 ∷ 32 ∷ 50 ∷ 32 ∷ 55 ∷ 32 ∷ 49 ∷ 49 ∷ 32 ∷ 49 ∷ 51 ∷ 10 ∷ [])
-    -- 2 0 1 2 7 21 22 64 65
-    ++ (50 ∷ 32 ∷ 48 ∷ 32 ∷ 49 ∷ 32 ∷ 50 ∷ 32 ∷ 55 ∷ 32 ∷ 50 ∷ 49 ∷ 32 ∷ 50 ∷ 50 ∷ 32 ∷ 54 ∷ 52 ∷ 32 ∷ 54 ∷ 53 ∷ 10 ∷ [])
+exampleScript = textOf (linesIn example)
 
--- what 01 says that it writes
+-- what 01 says that it writes; byte 84 is `T`
 unfoldable pub exampleText : List ℕ
-exampleText =
-    -- 1 0 2 7 11 13
-    (49 ∷ 32 ∷ 48 ∷ 32 ∷ 50 ∷ 32 ∷ 55 ∷ 32 ∷ 49 ∷ 49 ∷ 32 ∷ 49 ∷ 51 ∷ 10 ∷ [])
-    -- 2 0 2 7 21 22
-    ++ (50 ∷ 32 ∷ 48 ∷ 32 ∷ 50 ∷ 32 ∷ 55 ∷ 32 ∷ 50 ∷ 49 ∷ 32 ∷ 50 ∷ 50 ∷ 10 ∷ [])
-    -- 3 7
-    ++ (51 ∷ 32 ∷ 55 ∷ 10 ∷ [])
-    -- 4 0
-    ++ (52 ∷ 32 ∷ 48 ∷ 10 ∷ [])
-    -- 5 6
-    ++ (53 ∷ 32 ∷ 54 ∷ 10 ∷ [])
-    -- 6 0
-    ++ (54 ∷ 32 ∷ 48 ∷ 10 ∷ [])
-    -- 7 5
-    ++ (55 ∷ 32 ∷ 53 ∷ 10 ∷ [])
-    -- T 865 0 0 135
-    ++ (84 ∷ 32 ∷ 56 ∷ 54 ∷ 53 ∷ 32 ∷ 48 ∷ 32 ∷ 48 ∷ 32 ∷ 49 ∷ 51 ∷ 53 ∷ 10 ∷ [])
+exampleText = textOf (numbered 1 (example .answers)) ++ (84 ∷ []) ++ after (example .totals) ++ (10 ∷ [])
 
 -- a theorem that computes with these says `unfolding` and this name
 unfoldable pub computes : Unit {0}
-unfolding exampleScript exampleText
+unfolding linesIn textOf numbered exampleScript exampleText
 computes = tt

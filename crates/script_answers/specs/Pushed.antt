@@ -1,14 +1,15 @@
--- Numbers gathered at the front of a slice, one after another; what the cells after them hold is open.
+-- Numbers written one after another, each with a space before it.
 use Prim.Native.Nat.{ℕ, _+_, _≤_}
-use mathlib.Core.Path.{_≡_}
-use mathlib.Core.List.{List, _++_}
-use lib.ListN.{length, take}
+use mathlib.Core.List.{List}
+use lib.ListN.{length}
+use Rattle.script_text.specs.Numeral.{after}
+use Rattle.script_text.specs.Pasted.{Wrote}
 
--- ns stand after the first `at`, and r is the place after them
-pub record Pushed (out : List ℕ) (at : ℕ) (ns out′ : List ℕ) (r : ℕ) : Type 0 where
-  pub is : take r out′ ≡ take at out ++ ns
-  pub end : r ≡ at + length ns
-  pub within : r ≤ length out′
+-- ns stand from place `at` on, and r is the place after them; they take `most` places at most
+pub record Pushed (most : ℕ) (out : List ℕ) (at : ℕ) (ns out′ : List ℕ) (r : ℕ) : Type 0 where
+  pub low : at ≤ length out
+  pub wrote : Wrote out at (after ns) out′ r
+  pub room : r ≤ at + most
 
 -- so many bytes of the buffer, 256 at most
 pub record BytesCounted (buffer : List ℕ) (count : ℕ) : Type 0 where

@@ -1,6 +1,7 @@
 -- Numbers that are bytes, and the lines that a call asks.
 use Prim.Native.Nat.{ℕ, zero, suc, _+_, _-_, _≤_, _<_}
 use mathlib.Core.Path.{_≡_, refl, sym, ap, _∙_}
+use mathlib.Core.Logic.{_≢_}
 use mathlib.Core.Bool.{Bool, true, false, not, _&&_, false≢true}
 use mathlib.Core.List.{List, [], _∷_}
 use native.Mathlib.Omega.{arith}
@@ -11,8 +12,10 @@ use lib.Seq.{drop-cons, getD-drop}
 use borrow.Author.Tests.{lt-ltb, le-ltb, le-leb, lt-leb, ltb-true, ltb-false, leb-true}
 use Rattle.rules.specs.Slots.{any}
 use Rattle.rules.specs.Rights.{op}
-use Rattle.rules.specs.Script.{nth, areBytes, lineFits}
+use Rattle.rules.specs.Fields.{bytes, place}
+use Rattle.rules.specs.Script.{nth, areBytes}
 use Rattle.rules.proofs.Tests.{by-bool, pick-yes, pick-not, all2}
+use Rattle.script_lines.proofs.Calls.{fits-none, before-bytes}
 use Rattle.script_lines.specs.Lists.{BytesFrom, LineAsks}
 
 bytes-cons : (b : ℕ) (l : List ℕ) → b ≤ 255 → areBytes (b ∷ l) ≡ areBytes l
@@ -69,18 +72,12 @@ bytes-from l from i e low h =
     whole : (f i : ℕ) → f ≤ i → f + (i - f) ≡ i
     whole f i h = omega arith
 
--- ---- the lines with bytes
+-- ---- a line that goes on with bytes
 
-pub write-bytes : (l text : List ℕ) → LineAsks l text → nth l 0 ≡ 3 → BytesFrom l 9 text
-unfolding lineFits op
-write-bytes l text a e =
-    let f = all2 (leb 9 (length l)) (areBytes (drop 9 l))
-    (ap (λ (k : ℕ). lineFits (op k) l) (sym e) ∙ a .fits) in
-    record { bytes = f .1; low = leb-true 9 (length l) (f .0); room = a .room }
-
-pub send-bytes : (l text : List ℕ) → LineAsks l text → nth l 0 ≡ 13 → BytesFrom l 8 text
-unfolding lineFits op
-send-bytes l text a e =
-    let f = all2 (leb 8 (length l)) (areBytes (drop 8 l))
-    (ap (λ (k : ℕ). lineFits (op k) l) (sym e) ∙ a .fits) in
-    record { bytes = f .1; low = leb-true 8 (length l) (f .0); room = a .room }
+pub line-bytes : (l text : List ℕ) (a : ℕ) → LineAsks l text → a ≡ place (op (nth l 0)) bytes → a ≢ 0 → BytesFrom l a text
+line-bytes l text a asks e h =
+    let some : length l ≢ 0 = λ z. false≢true (sym (fits-none (op (nth l 0)) l z) ∙ asks .fits) in
+    let f = all2 (leb a (length l)) (areBytes (drop a l))
+    (ap (λ (k : ℕ). leb k (length l) && areBytes (drop k l)) e
+    ∙ before-bytes (op (nth l 0)) l some (λ z. h (e ∙ z)) ∙ asks .fits) in
+    record { bytes = f .1; low = leb-true a (length l) (f .0); room = asks .room }

@@ -1,7 +1,6 @@
 // A script's first line.
 ghost use Rattle.script_lines.specs.First.{FirstIs};
 use crate::fits::nth;
-use crate::request::two_at;
 
 // "Line one is supply, p1, p2".
 pub struct First {
@@ -16,6 +15,6 @@ pub fn first_line(numbers: &[u32]) -> First
     First {
         ok: numbers.len() == 3,
         supply: nth(numbers, 0),
-        password: two_at(numbers, 1),
+        password: [nth(numbers, 1), nth(numbers, 2)],
     }
 }

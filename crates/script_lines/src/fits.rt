@@ -5,6 +5,11 @@ ghost use lib.Dec.{leb};
 ghost use lib.ListN.{length, drop};
 ghost use Rattle.rules.specs.Rights.{op};
 ghost use Rattle.rules.specs.Script.{areBytes, lineFits, nth};
+use crate::table::BYTES;
+use crate::table::LENGTH;
+use crate::table::column;
+use crate::table::wide;
+use values::limit::MAX_BYTE;
 
 // The numbers from place `from` on are 0 to 255.
 fn are_bytes(numbers: &[u32], from: usize) -> bool
@@ -12,7 +17,7 @@ fn are_bytes(numbers: &[u32], from: usize) -> bool
 {
     let mut i = from;
     while i < numbers.len() {
-        if numbers[i] > 255 {
+        if numbers[i] > MAX_BYTE {
             return false;
         }
         i += 1;
@@ -44,24 +49,13 @@ pub(crate) fn nth(numbers: &[u32], i: usize) -> u32
 pub fn line_fits(numbers: &[u32]) -> bool
     ensures { λ r. ⌜ r ≡ lineFits (op (nth (now (numbers .entry)) 0)) (now (numbers .entry)) ⌝ }
 {
-    let n = nth(numbers, 0);
-    match n {
-        1 => numbers.len() == 10,
-        2 => numbers.len() == 9,
-        3 => ends_in_bytes(numbers, 9),
-        4 => numbers.len() == 7,
-        5 => numbers.len() == 12,
-        6 => numbers.len() == 7,
-        7 => numbers.len() == 9,
-        8 => numbers.len() == 8,
-        9 => numbers.len() == 8,
-        10 => numbers.len() == 7,
-        11 => numbers.len() == 7,
-        12 => numbers.len() == 9,
-        13 => ends_in_bytes(numbers, 8),
-        14 => numbers.len() == 3,
-        15 => numbers.len() == 3,
-        16 => numbers.len() == 8,
-        _ => false,
+    if numbers.len() == 0 {
+        return false;
     }
+    let call = column(numbers[0]);
+    let bytes = wide(BYTES[call]);
+    if bytes == 0 {
+        return numbers.len() == wide(LENGTH[call]);
+    }
+    ends_in_bytes(numbers, bytes)
 }

@@ -3,3 +3,4 @@ pub mod first;
 pub mod fits;
 pub mod payload;
 pub mod request;
+mod table;

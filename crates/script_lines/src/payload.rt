@@ -5,6 +5,9 @@ ghost use Rattle.rules.specs.Rights.{op};
 ghost use Rattle.rules.specs.Script.{nth, callOf};
 ghost use Rattle.script_lines.specs.Lists.{Front, BytesFrom, LineAsks};
 use crate::fits::nth;
+use crate::table::BYTES;
+use crate::table::column;
+use crate::table::wide;
 
 // The numbers from place `from` on, as bytes.
 fn copy_bytes(numbers: &[u32], from: usize, text: &mut [u8]) -> usize
@@ -21,17 +24,15 @@ fn copy_bytes(numbers: &[u32], from: usize, text: &mut [u8]) -> usize
     n
 }
 
-// The bytes of write and of send, into the front of `text`, and how many they are; no other call has any.
+// The bytes of a line that goes on with bytes, into the front of `text`, and how many they are; no other line has any.
 pub fn bytes_of(numbers: &[u32], text: &mut [u8]) -> usize
     requires { ⌜ LineAsks (now numbers) (now text) ⌝ }
     ensures { λ r. ⌜ Front (callOf (op (nth (now (numbers .entry)) 0)) (now (numbers .entry)) .bytes) (now (text .exit)) r ⌝ }
 {
-    let n = nth(numbers, 0);
-    if n == 3 {
-        return copy_bytes(numbers, 9, text);
+    let call = column(nth(numbers, 0));
+    let from = wide(BYTES[call]);
+    if from == 0 {
+        return 0;
     }
-    if n == 13 {
-        return copy_bytes(numbers, 8, text);
-    }
-    0
+    copy_bytes(numbers, from, text)
 }

@@ -1,206 +1,72 @@
 // A line as a request: its numbers by their names. A number that the line does not have is 0.
-ghost use Prim.Native.Nat.{ℕ, _+_, _≤_};
 ghost use mathlib.Core.Path.{_≡_};
-ghost use mathlib.Core.List.{List, [], _∷_};
-ghost use lib.ListN.{drop};
+ghost use Rattle.rules.specs.Limit as Limit;
 ghost use Rattle.rules.specs.Rights.{op};
-ghost use Rattle.rules.specs.Script.{nth, callWith};
+ghost use Rattle.rules.specs.Script.{nth, numberAt};
 ghost use Rattle.rules.specs.Script.{callOf as Script·callOf};
 ghost use Rattle.call_steps.specs.Request.{callOf};
 use crate::fits::nth;
+use crate::table;
+use crate::table::column;
+use crate::table::wide;
 use call_steps::request::Capability;
 use call_steps::request::Name;
 use call_steps::request::Request;
 use values::window::Window;
 
-// The two numbers at place i.
-pub(crate) fn two_at(numbers: &[u32], i: usize) -> [u32; 2]
-    requires { ⌜ i ≤ 10 ⌝ }
-    ensures { λ r. ⌜ r ≡ nth (now (numbers .entry)) i ∷ nth (now (numbers .entry)) (i + 1) ∷ [] ⌝ }
+// The number at a field's place.
+fn number_at(numbers: &[u32], place: u8) -> u32
+    ensures { λ r. ⌜ r ≡ numberAt (now (numbers .entry)) place ⌝ }
 {
-    [nth(numbers, i), nth(numbers, i + 1)]
-}
-
-// make_obj's volume, size, flag, rights, serial, p1, p2.
-fn made(numbers: &[u32]) -> [u32; 7]
-    ensures { λ r. ⌜ r ≡ nth (now (numbers .entry)) 3 ∷ nth (now (numbers .entry)) 4 ∷ nth (now (numbers .entry)) 5
-        ∷ nth (now (numbers .entry)) 6 ∷ nth (now (numbers .entry)) 7 ∷ nth (now (numbers .entry)) 8
-        ∷ nth (now (numbers .entry)) 9 ∷ [] ⌝ }
-{
-    [
-        nth(numbers, 3),
-        nth(numbers, 4),
-        nth(numbers, 5),
-        nth(numbers, 6),
-        nth(numbers, 7),
-        nth(numbers, 8),
-        nth(numbers, 9),
-    ]
-}
-
-// derive's mask, p1 and p2, each in its place there.
-fn derived(numbers: &[u32]) -> [u32; 7]
-    ensures { λ r. ⌜ r ≡ 0 ∷ 0 ∷ 0 ∷ nth (now (numbers .entry)) 7 ∷ 0 ∷ nth (now (numbers .entry)) 10
-        ∷ nth (now (numbers .entry)) 11 ∷ [] ⌝ }
-{
-    [
-        0,
-        0,
-        0,
-        nth(numbers, 7),
-        0,
-        nth(numbers, 10),
-        nth(numbers, 11),
-    ]
-}
-
-// rename's p1 and p2.
-fn renamed(numbers: &[u32]) -> [u32; 7]
-    ensures { λ r. ⌜ r ≡ 0 ∷ 0 ∷ 0 ∷ 0 ∷ 0 ∷ nth (now (numbers .entry)) 7 ∷ nth (now (numbers .entry)) 8 ∷ [] ⌝ }
-{
-    [0, 0, 0, 0, 0, nth(numbers, 7), nth(numbers, 8)]
-}
-
-// Call number, caller and capability, and these arguments.
-fn request_with(
-    numbers: &[u32],
-    made: [u32; 7],
-    range: [u32; 2],
-    sum: u32,
-    lock: [u32; 2],
-) -> Request
-    ensures { λ r. ⌜ ((bytes : List ℕ) → callOf r bytes 256 512
-        ≡ callWith (now (numbers .entry)) made range sum lock bytes) ⌝ }
-{
-    Request {
-        number: nth(numbers, 0),
-        caller: Name {
-            volume: nth(numbers, 1),
-            serial: nth(numbers, 2),
-        },
-        presented: Capability {
-            name: Name {
-                volume: nth(numbers, 3),
-                serial: nth(numbers, 4),
-            },
-            password: [nth(numbers, 5), nth(numbers, 6)],
-        },
-        name: Name {
-            volume: made[0],
-            serial: made[4],
-        },
-        size: made[1],
-        flag: made[2],
-        rights: made[3],
-        drawn: [made[5], made[6]],
-        range: Window {
-            start: range[0],
-            end: range[1],
-        },
-        sum,
-        lock,
+    if place == 0 {
+        return 0;
     }
-}
-
-// make_obj.
-fn make_request(numbers: &[u32]) -> Request
-    ensures { λ r. ⌜ ((bytes : List ℕ) → callOf r bytes 256 512
-        ≡ callWith (now (numbers .entry)) (drop 3 (now (numbers .entry))) [] 0 [] bytes) ⌝ }
-{
-    request_with(numbers, made(numbers), [0, 0], 0, [0, 0])
-}
-
-// read, write.
-fn range_request(numbers: &[u32]) -> Request
-    ensures { λ r. ⌜ ((bytes : List ℕ) → callOf r bytes 256 512
-        ≡ callWith (now (numbers .entry)) [] (drop 7 (now (numbers .entry))) 0 [] bytes) ⌝ }
-{
-    request_with(
-        numbers,
-        [0, 0, 0, 0, 0, 0, 0],
-        two_at(numbers, 7),
-        0,
-        [0, 0],
-    )
-}
-
-// derive.
-fn derive_request(numbers: &[u32]) -> Request
-    ensures { λ r. ⌜ ((bytes : List ℕ) → callOf r bytes 256 512
-        ≡ callWith (now (numbers .entry))
-        (0 ∷ 0 ∷ 0 ∷ nth (now (numbers .entry)) 7 ∷ 0 ∷ drop 10 (now (numbers .entry)))
-        (drop 8 (now (numbers .entry))) 0 [] bytes) ⌝ }
-{
-    request_with(numbers, derived(numbers), two_at(numbers, 8), 0, [0, 0])
-}
-
-// rename.
-fn rename_request(numbers: &[u32]) -> Request
-    ensures { λ r. ⌜ ((bytes : List ℕ) → callOf r bytes 256 512
-        ≡ callWith (now (numbers .entry)) (0 ∷ 0 ∷ 0 ∷ 0 ∷ 0 ∷ drop 7 (now (numbers .entry))) [] 0 [] bytes) ⌝ }
-{
-    request_with(numbers, renamed(numbers), [0, 0], 0, [0, 0])
-}
-
-// withdraw, deposit, send, revive.
-fn sum_request(numbers: &[u32]) -> Request
-    ensures { λ r. ⌜ ((bytes : List ℕ) → callOf r bytes 256 512
-        ≡ callWith (now (numbers .entry)) [] [] (nth (now (numbers .entry)) 7) [] bytes) ⌝ }
-{
-    request_with(
-        numbers,
-        [0, 0, 0, 0, 0, 0, 0],
-        [0, 0],
-        nth(numbers, 7),
-        [0, 0],
-    )
-}
-
-// apply_lock.
-fn lock_request(numbers: &[u32]) -> Request
-    ensures { λ r. ⌜ ((bytes : List ℕ) → callOf r bytes 256 512
-        ≡ callWith (now (numbers .entry)) [] [] 0 (drop 7 (now (numbers .entry))) bytes) ⌝ }
-{
-    request_with(
-        numbers,
-        [0, 0, 0, 0, 0, 0, 0],
-        [0, 0],
-        0,
-        two_at(numbers, 7),
-    )
-}
-
-// The calls with no arguments of their own.
-fn plain_request(numbers: &[u32]) -> Request
-    ensures { λ r. ⌜ ((bytes : List ℕ) → callOf r bytes 256 512
-        ≡ callWith (now (numbers .entry)) [] [] 0 [] bytes) ⌝ }
-{
-    request_with(numbers, [0, 0, 0, 0, 0, 0, 0], [0, 0], 0, [0, 0])
+    nth(numbers, wide(place))
 }
 
 // The request that a line says; the bytes of write and send are in `bytes_of`.
 pub fn request_of(numbers: &[u32]) -> Request
-    ensures { λ r. ⌜ callOf r (Script·callOf (op (nth (now (numbers .entry)) 0)) (now (numbers .entry)) .bytes) 256 512
+    ensures { λ r. ⌜ callOf r (Script·callOf (op (nth (now (numbers .entry)) 0)) (now (numbers .entry)) .bytes)
+        Limit.buffer Limit.scratch
         ≡ Script·callOf (op (nth (now (numbers .entry)) 0)) (now (numbers .entry)) ⌝ }
 {
-    let n = nth(numbers, 0);
-    match n {
-        1 => make_request(numbers),
-        2 => range_request(numbers),
-        3 => range_request(numbers),
-        4 => plain_request(numbers),
-        5 => derive_request(numbers),
-        6 => plain_request(numbers),
-        7 => rename_request(numbers),
-        8 => sum_request(numbers),
-        9 => sum_request(numbers),
-        10 => plain_request(numbers),
-        11 => plain_request(numbers),
-        12 => lock_request(numbers),
-        13 => sum_request(numbers),
-        14 => plain_request(numbers),
-        15 => plain_request(numbers),
-        16 => sum_request(numbers),
-        _ => plain_request(numbers),
+    let number = nth(numbers, 0);
+    let call = column(number);
+    Request {
+        number,
+        caller: Name {
+            volume: number_at(numbers, table::CALLER_VOLUME[call]),
+            serial: number_at(numbers, table::CALLER_SERIAL[call]),
+        },
+        presented: Capability {
+            name: Name {
+                volume: number_at(numbers, table::CAP_VOLUME[call]),
+                serial: number_at(numbers, table::CAP_SERIAL[call]),
+            },
+            password: [
+                number_at(numbers, table::CAP_P1[call]),
+                number_at(numbers, table::CAP_P2[call]),
+            ],
+        },
+        name: Name {
+            volume: number_at(numbers, table::VOLUME[call]),
+            serial: number_at(numbers, table::SERIAL[call]),
+        },
+        size: number_at(numbers, table::SIZE[call]),
+        flag: number_at(numbers, table::FLAG[call]),
+        rights: number_at(numbers, table::RIGHTS[call]),
+        drawn: [
+            number_at(numbers, table::P1[call]),
+            number_at(numbers, table::P2[call]),
+        ],
+        range: Window {
+            start: number_at(numbers, table::START[call]),
+            end: number_at(numbers, table::END[call]),
+        },
+        sum: number_at(numbers, table::SUM[call]),
+        lock: [
+            number_at(numbers, table::WORD1[call]),
+            number_at(numbers, table::WORD2[call]),
+        ],
     }
 }

@@ -6,12 +6,11 @@ use mathlib.Core.List.{List, [], _∷_}
 use native.Mathlib.Omega.{arith}
 use lib.ListN.{length, take, length-take}
 use Rattle.rules.specs.Store.{State}
-use Rattle.rules.specs.Rights.{Op, makeObj, read, write, capInfo, deriveCap, deleteCap, renameObj, withdraw}
-use Rattle.rules.specs.Rights.{deposit, suspend, resume, applyLock, send, receive, wait, revive, unknown, op}
+use Rattle.rules.specs.Rights.{Op, op}
 use Rattle.rules.specs.Call.{Call, Outcome, Choice, code}
 use Rattle.rules.specs.Rule.{rule}
 use Rattle.rules.specs.Demand.{Allowed}
-use Rattle.rules.specs.Script.{nth, lineFits, callWith, answerOf}
+use Rattle.rules.specs.Script.{nth, lineFits, answerOf}
 use Rattle.rules.specs.Script.{callOf as lineCall}
 use Rattle.rules.proofs.Tests.{pick-yes, pick-not}
 use Rattle.layout.specs.View.{view}
@@ -43,24 +42,8 @@ line-bad h s ns e = pick-not (lineFits (op (nth ns 0)) ns) _ _ e
 
 -- a line's call has the line's first number
 line-number : (o : Op) (l : List ℕ) → lineCall o l .number ≡ nth l 0
-unfolding lineCall callWith
-line-number makeObj l = refl
-line-number read l = refl
-line-number write l = refl
-line-number capInfo l = refl
-line-number deriveCap l = refl
-line-number deleteCap l = refl
-line-number renameObj l = refl
-line-number withdraw l = refl
-line-number deposit l = refl
-line-number suspend l = refl
-line-number resume l = refl
-line-number applyLock l = refl
-line-number send l = refl
-line-number receive l = refl
-line-number wait l = refl
-line-number revive l = refl
-line-number unknown l = refl
+unfolding lineCall
+line-number o l = refl
 
 -- ---- a line that fits its call
 

@@ -5,6 +5,7 @@ pub mod Scanning
 pub mod Reading
 -- what is written
 pub mod Pasting
+pub mod Spelling
 -- lines in a part
 pub mod Windows
 -- a line says one thing

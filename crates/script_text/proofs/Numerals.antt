@@ -2,18 +2,15 @@
 use Prim.Native.Nat.{ℕ, zero, suc, _+_, _-_, _*_, _/_, _%_, _^_, _≤_, _<_}
 use mathlib.Core.Path.{_≡_, refl, sym, ap, _∙_, subst}
 use mathlib.Core.Logic.{_≢_}
-use mathlib.Core.Bool.{Bool, true, false, cond}
+use mathlib.Core.Bool.{true, false}
 use mathlib.Core.List.{List, [], _∷_, _++_}
 use native.Mathlib.Omega.{arith}
-use native.Mathlib.Nat.{div-add-mod', mod-lt, div-lt-self, mod-eq-of-lt, pow-suc, pow-le-pow-right}
-use native.Mathlib.Nat.{div-lt-iff-lt-mul, le-div-iff-mul-le}
-use native.Mathlib.Numerals.{sub-one}
+use native.Mathlib.Nat.{div-add-mod', mod-lt, div-lt-self, pow-suc, div-lt-iff-lt-mul}
 use lib.Dec.{ltb}
 use lib.Arith.{digits-div, digits-mod}
 use lib.ListN.{length, length-append}
 use Rattle.rules.proofs.Tests.{by-bool, pick-yes, pick-not}
 use borrow.Author.Tests.{ltb-true, ltb-false, lt-ltb, le-ltb}
-use Rattle.io.specs.Digits.{glyph, digits, Fewest}
 use Rattle.script_text.specs.Numeral.{numeral, numeralIn}
 
 small-in : (f n : ℕ) → n < 10 → numeralIn f n ≡ (48 + n) ∷ []
@@ -74,36 +71,6 @@ numeral-by P one more n = go n n (omega arith)
     go : (f n : ℕ) → n ≤ f → P n
     go zero n h = one n (omega arith)
     go (suc f) n h = step n (one n) (λ _. go f (n / 10) (tenth n f h))
-
--- ---- the kit's digits
-
-tenfold : (k n : ℕ) → 10 ^ suc k ≤ n → 10 ^ (suc k - 1) * 10 ≤ n
-tenfold k n h = rw (sub-one (suc k), ← pow-suc 10 k) h
-
-numeral-last : (k n : ℕ) → 10 ≤ 10 ^ suc k → 10 ^ suc k ≤ n → digits 10 (suc k) (n / 10) ≡ numeral (n / 10)
-    → digits 10 (suc (suc k)) n ≡ numeral n
-numeral-last k n one large e =
-    ap (λ (l : List ℕ). l ++ (glyph (n % 10) ∷ [])) e
-    ∙ ap (λ (b : Bool). numeral (n / 10) ++ (cond b (48 + n % 10) (87 + n % 10) ∷ []))
-    (lt-ltb (n % 10) 10 (mod-lt n {m = 10} (omega arith)))
-    ∙ sym (numeral-tenth n (omega arith))
-
--- the fewest digits that hold n
-pub fewest-digits : (k n : ℕ) → Fewest 10 1 n k → digits 10 k n ≡ numeral n
-fewest-digits zero n h = absurd (omega (arith, h .0))
-fewest-digits (suc zero) n h =
-    let small : n < 10 = h .1 in
-    rw (mod-eq-of-lt {n = n} {m = 10} small, lt-ltb n 10 small) (sym (numeral-digit n small))
-fewest-digits (suc (suc k)) n h =
-    let large : 10 ^ suc k ≤ n = rw (sub-one (suc (suc k))) at (h .2 (omega arith)) in
-    let one : 10 ≤ 10 ^ suc k = pow-le-pow-right {n = 10} (omega arith) {i = 1} {j = suc k} (omega arith) in
-    numeral-last k n one large
-    (fewest-digits (suc k) (n / 10) (
-      omega arith,
-      div-lt-iff-lt-mul {k = 10} {x = n} {y = 10 ^ suc k} (omega arith) .1
-          (subst (λ (m : ℕ). n < m) (pow-suc 10 (suc k)) (h .1)),
-      λ _. le-div-iff-mul-le {k = 10} {x = 10 ^ (suc k - 1)} {y = n} (omega arith) .1 (tenfold k n large),
-    ))
 
 -- ---- how many
 

@@ -1,16 +1,15 @@
 -- What is written into a slice, part after part.
-use Prim.Native.Nat.{ℕ, suc, _+_, _-_, _*_, _≤_, _<_}
+use Prim.Native.Nat.{ℕ, suc, _+_, _*_, _≤_, _<_}
 use mathlib.Core.Path.{_≡_, refl, sym, ap, _∙_, subst}
 use mathlib.Core.List.{List, [], _∷_, _++_, append-assoc, append-nil}
 use native.Mathlib.Omega.{arith}
 use native.Mathlib.Numerals.{add-one}
 use native.Mathlib.Nat.{add-assoc, add-zero}
-use lib.ListN.{length, getD, take, drop, set, length-append, length-drop, take-append-drop, drop-of-length-le}
-use lib.Seq.{take-all, take-length, take-suc, drop-drop, set-split, append-snoc, take-at, length-take-le, drop-append-add}
-use Rattle.io.specs.Digits.{digits, Fewest}
+use lib.ListN.{length, getD, take, drop, set, length-append, take-append-drop}
+use lib.Seq.{take-all, take-suc, drop-drop, set-split, append-snoc, take-at, length-take-le, drop-append-add}
 use Rattle.script_text.specs.Numeral.{numeral, after, spaced, lineOf}
 use Rattle.script_text.specs.Pasted.{pasted, Wrote, Put}
-use Rattle.script_text.proofs.Numerals.{fewest-digits, numeral-length, long-length}
+use Rattle.script_text.proofs.Numerals.{numeral-length, long-length}
 
 pub wrote-byte : (out : List ℕ) (at b : ℕ) → at < length out → Wrote out at (b ∷ []) (set out at b) (at + 1)
 unfolding pasted
@@ -19,46 +18,6 @@ wrote-byte out at b h = record {
       ∙ ap (λ (k : ℕ). (take at out ++ (b ∷ [])) ++ drop k out) (sym (add-one at));
   end = refl;
 }
-
--- a part from place `at` on was lent, and has text in front
-put-part : (out text : List ℕ) (at : ℕ) → at ≤ length out
-    → take at out ++ ((take (length text) text ++ drop (length text) (take (length out - at) (drop at out)))
-    ++ drop (length out - at) (drop at out))
-    ≡ pasted out at text
-unfolding pasted
-put-part out text at h =
-    ap (λ (l : List ℕ). take at out ++ ((take (length text) text ++ drop (length text) (take (length out - at) (drop at out))) ++ l))
-    (drop-of-length-le (drop at out) {i = length out - at} (omega (arith, length-drop at out)))
-    ∙ ap (λ (l : List ℕ). take at out ++ l) (append-nil (take (length text) text ++ drop (length text) (take (length out - at) (drop at out))))
-    ∙ ap (λ (l : List ℕ). take at out ++ (l ++ drop (length text) (take (length out - at) (drop at out)))) (take-length text)
-    ∙ ap (λ (l : List ℕ). take at out ++ (text ++ drop (length text) l))
-    (take-all (length out - at) (drop at out) (omega (arith, length-drop at out)))
-    ∙ ap (λ (l : List ℕ). take at out ++ (text ++ l)) (drop-drop (length text) at out)
-    ∙ sym (append-assoc (take at out) text (drop (at + length text) out))
-
--- the digits of n stand in front of buf, of which k are copied
-pub wrote-number : (out buf back : List ℕ) (at n k : ℕ) → at ≤ length out → Fewest 10 1 n k → take k buf ≡ digits 10 k n
-    → k ≡ length (take k buf)
-    → back ≡ take (length (take k buf)) (take k buf) ++ drop (length (take k buf)) (take (length out - at) (drop at out))
-    → Wrote out at (numeral n) (take at out ++ (back ++ drop (length out - at) (drop at out))) (at + k)
-wrote-number out buf back at n k room few is long e =
-    let text : take k buf ≡ numeral n = is ∙ fewest-digits k n few in
-    record {
-      is = ap (λ (l : List ℕ). take at out ++ (l ++ drop (length out - at) (drop at out))) e
-          ∙ put-part out (take k buf) at room ∙ ap (pasted out at) text;
-      end = ap (λ (m : ℕ). at + m) (long ∙ ap length text);
-    }
-
--- they are as many
-pub number-places : (buf : List ℕ) (n k : ℕ) → Fewest 10 1 n k → take k buf ≡ digits 10 k n
-    → k ≡ length (take k buf) → k ≡ length (numeral n)
-number-places buf n k few is long = long ∙ ap length (is ∙ fewest-digits k n few)
-
-pub part-room : (out : List ℕ) (at m n : ℕ) → at + n ≤ length out → m ≡ n → m ≤ length (take (length out - at) (drop at out))
-part-room out at m n room h =
-    let all : take (length out - at) (drop at out) ≡ drop at out =
-    take-all (length out - at) (drop at out) (omega (arith, length-drop at out)) in
-    omega (arith, ap length all, length-drop at out)
 
 -- ---- one text after another
 

@@ -53,16 +53,20 @@ pub record On (line : List ℕ) (at first v i : ℕ) : Type 0 where
   pub within : i ≤ length line
   pub fits : v ≤ 4294967295
 
+-- where it starts
+pub on-none : (line : List ℕ) (at v : ℕ) → at ≤ length line → v ≤ 4294967295 → On line at v v at
+on-none line at v h g = record { same = refl; within = h; fits = g }
+
 module _ (line : List ℕ) (at first v i : ℕ) (on : On line at first v i) where
   next : i < length line → scanOn first (drop at line) ≡ scanOn v (getD line i 0 ∷ drop (i + 1) line)
   next h = on .same ∙ ap (scanOn v) (drop-cons line i 0 h ∙ ap (λ (k : ℕ). getD line i 0 ∷ drop k line) (sym (add-one i)))
 
-  pub on-more : i < length line → getD line i 0 ≢ 32 → extends v (getD line i 0) ≡ true
+  pub on-more : i < length line → extends v (getD line i 0) ≡ true
       → On line at first (v * 10 + (getD line i 0 - 48)) (i + 1)
-  on-more h n e = record {
-    same = next h ∙ scan-more v (getD line i 0) (drop (i + 1) line) n e;
+  on-more h e = let x = extending v (getD line i 0) e in record {
+    same = next h ∙ scan-more v (getD line i 0) (drop (i + 1) line) (λ z. omega (arith, z, x .digit .low)) e;
     within = omega (arith, h);
-    fits = extending v (getD line i 0) e .fits;
+    fits = x .fits;
   }
 
   pub on-space : i < length line → getD line i 0 ≡ 32
@@ -88,6 +92,25 @@ module _ (line : List ℕ) (at first v i : ℕ) (on : On line at first v i) wher
     within = omega arith;
   }
 
+-- ---- after a first digit 0
+
+-- the scan starts there
+zero-on : (line : List ℕ) (at : ℕ) → at ≤ length line → On line at 0 0 at
+zero-on line at h = on-none line at 0 h (omega arith)
+
+pub zero-space : (line : List ℕ) (at : ℕ) → at < length line → getD line at 0 ≡ 32
+    → ScanOnIs line at 0 (record { ok = true; value = 0; end = at })
+zero-space line at h e = on-space line at 0 0 at (zero-on line at (omega arith)) h e
+
+pub zero-stop : (line : List ℕ) (at : ℕ) → at < length line → getD line at 0 ≢ 32
+    → ScanOnIs line at 0 (record { ok = false; value = 0; end = length line })
+zero-stop line at h n =
+    on-stop line at 0 0 at (zero-on line at (omega arith)) h n (sym (extends-none 0 (getD line at 0) refl))
+
+pub zero-end : (line : List ℕ) (at : ℕ) → at ≤ length line → length line ≤ at
+    → ScanOnIs line at 0 (record { ok = true; value = 0; end = length line })
+zero-end line at h g = on-end line at 0 0 at (zero-on line at h) g
+
 -- ---- where a number has to start
 
 pub number-digit : (line : List ℕ) (at : ℕ) (r : Number) → at < length line → isDigit (getD line at 0) ≡ true
@@ -97,6 +120,13 @@ number-digit line at r h e on = record {
       ∙ ap (λ (k : ℕ). scanOn (getD line at 0 - 48) (drop k line)) (sym (add-one at)) ∙ on .is;
   within = on .within;
 }
+
+pub number-zero : (line : List ℕ) (at : ℕ) (r : Number) → at < length line → getD line at 0 ≡ 48 → ScanOnIs line (at + 1) 0 r
+    → NumberAt line at r
+unfolding isDigit
+number-zero line at r h e on =
+    number-digit line at r h (ap isDigit e)
+    (subst (λ (v : ℕ). ScanOnIs line (at + 1) v r) (sym (ap (λ (b : ℕ). b - 48) e)) on)
 
 -- nothing is found
 none : (line : List ℕ) (at : ℕ) → scan (drop at line) ≡ failed

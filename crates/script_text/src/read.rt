@@ -1,6 +1,7 @@
 // A line of numbers is read: sound and complete, for any bytes.
 ghost use Prim.Native.Nat.{_≤_};
 ghost use mathlib.Core.Path.{_≡_};
+ghost use mathlib.Core.Logic.{_≢_};
 ghost use lib.ListN.{length};
 ghost use Rattle.script_text.specs.Lines.{mostNumbers};
 ghost use Rattle.script_text.specs.Scan.{ScanOnIs, NumberAt, ReadIs, LineIs};
@@ -26,39 +27,35 @@ fn is_digit(b: u8) -> bool
     48 <= b && b <= 57
 }
 
-// Byte b goes on with a number whose digits so far say `value`.
+// Byte b goes on with a number whose digits so far say `value`, which is not 0.
 fn extends(value: u64, b: u8) -> bool
-    requires { ⌜ value ≤ 4294967295 ⌝ }
+    requires { ⌜ (value ≢ 0) × (value ≤ 4294967295) ⌝ }
     ensures { λ r. ⌜ r ≡ Scan·extends value b ⌝ }
 {
-    if value == 0 {
-        return false;
-    }
     if is_digit(b) {
         return value * 10 + (b - 48) as u64 <= 4294967295;
     }
     false
 }
 
-// What goes on from place `at`, after digits that say `first`.
+// What goes on from place `at`, after digits that say `first`, which is not 0.
 fn digits_on(line: &[u8], at: usize, first: u64) -> Number
-    requires { ⌜ at ≤ length (now line) ⌝ ∗ ⌜ first ≤ 4294967295 ⌝ }
+    requires { ⌜ at ≤ length (now line) ⌝ ∗ ⌜ (first ≢ 0) × (first ≤ 4294967295) ⌝ }
     ensures { λ r. ⌜ ScanOnIs (now (line .entry)) at first r ⌝ }
 {
     let mut value = first;
     let mut i = at;
     while i < line.len() {
         let b = line[i];
-        if b == 32 {
+        if extends(value, b) {
+            value = value * 10 + (b - 48) as u64;
+            i += 1;
+        } else if b == 32 {
             return Number {
                 ok: true,
                 value: value as u32,
                 end: i,
             };
-        }
-        if extends(value, b) {
-            value = value * 10 + (b - 48) as u64;
-            i += 1;
         } else {
             return Number {
                 ok: false,
@@ -74,12 +71,41 @@ fn digits_on(line: &[u8], at: usize, first: u64) -> Number
     }
 }
 
+// What goes on from place `at`, after a first digit 0: "no leading zeros".
+fn zero_on(line: &[u8], at: usize) -> Number
+    requires { ⌜ at ≤ length (now line) ⌝ }
+    ensures { λ r. ⌜ ScanOnIs (now (line .entry)) at 0 r ⌝ }
+{
+    if at < line.len() {
+        if line[at] == 32 {
+            return Number {
+                ok: true,
+                value: 0,
+                end: at,
+            };
+        }
+        return Number {
+            ok: false,
+            value: 0,
+            end: line.len(),
+        };
+    }
+    Number {
+        ok: true,
+        value: 0,
+        end: line.len(),
+    }
+}
+
 // The number at place `at`: its digits, to a space or the line's end.
 fn number_at(line: &[u8], at: usize) -> Number
     ensures { λ r. ⌜ NumberAt (now (line .entry)) at r ⌝ }
 {
     if at < line.len() {
         let b = line[at];
+        if b == 48 {
+            return zero_on(line, at + 1);
+        }
         if is_digit(b) {
             return digits_on(line, at + 1, (b - 48) as u64);
         }

@@ -1,6 +1,7 @@
 // Numbers and lines are written into a slice, from a place on; the rest of the slice is as it was. Each function answers
 // the place after what it wrote.
 ghost use Prim.Native.Nat.{_+_, _*_, _≤_, _<_};
+ghost use mathlib.Core.Path.{_≡_};
 ghost use mathlib.Core.List.{[], _∷_};
 ghost use lib.ListN.{length};
 ghost use Rattle.script_text.specs.Numeral.{numeral, after, lineOf};
@@ -14,15 +15,43 @@ pub fn put_byte(out: &mut [u8], at: usize, b: u8) -> usize
     at + 1
 }
 
-// The digits of n.
+// How many digits n has.
+fn digits_in(n: u64) -> usize
+    ensures { λ r. ⌜ r ≡ length (numeral n) ⌝ }
+{
+    if n < 10 {
+        return 1;
+    }
+    if n < 100 {
+        return 2;
+    }
+    if n < 1000 {
+        return 3;
+    }
+    let mut k = 1;
+    let mut rest = n;
+    while rest >= 10 {
+        rest /= 10;
+        k += 1;
+    }
+    k
+}
+
+// The digits of n, from the last back.
 pub fn put_digits(out: &mut [u8], at: usize, n: u64) -> usize
     requires { ⌜ at + length (numeral n) ≤ length (now out) ⌝ }
     ensures { λ r. ⌜ Wrote (now (out .entry)) at (numeral n) (now (out .exit)) r ⌝ }
 {
-    let mut text = [0u8; 20];
-    let k = io::decimal(n, &mut text);
-    bytes::copy(&text[..k], &mut out[at..]);
-    at + k
+    let end = at + digits_in(n);
+    let mut i = end;
+    let mut rest = n;
+    while rest >= 10 {
+        i -= 1;
+        out[i] = 48 + (rest % 10) as u8;
+        rest /= 10;
+    }
+    out[at] = 48 + rest as u8;
+    end
 }
 
 // The same of a number of 32 bits, whose digits are ten at most.

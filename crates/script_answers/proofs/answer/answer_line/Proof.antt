@@ -1,46 +1,41 @@
--- `answer_line` writes the numbers gathered.
-use Prim.Native.Nat.{_≤_}
-use mathlib.Core.Path.{sym}
+-- `answer_line` writes the line's number, the others and the end.
 use native.Mathlib.Omega.{arith}
-use lib.Seq.{length-take-le}
-use Rattle.script_answers.proofs.Gathering.{line-room, line-pushed}
+use Rattle.script_text.proofs.Numerals.{long-length}
+use Rattle.script_answers.proofs.Gathering.{line-pushed}
 use borrow.Author.Needs.{needs}
 use Rattle.script_answers.proofs.answer.answer_line.Statement.{statement}
 use Rattle.script_answers.proofs.answer.answer_line.Tie as tie
 
-slice-aggregate-answer-numbers : tie.Need-slice-aggregate-answer-numbers
-slice-aggregate-answer-numbers c = search needs
+put-digits-requires : tie.Need-put-digits-requires
+put-digits-requires c κs = omega (arith, long-length (c .before .before .before .args .line) (omega arith))
 
-answer-numbers-requires : tie.Need-answer-numbers-requires
-answer-numbers-requires c κs = search needs
+push-answer-requires : tie.Need-push-answer-requires
+push-answer-requires c κs = (
+  c .before .before .before .before .before .before .before .pre .0,
+  omega (arith, c .before .before .before .put-digits .ensures .end, long-length (c .before .before .before .before .before .before .before .args .line) (omega arith), c .before .before .before .put-digits .kept .0, c .before .before .before .before .before .before .before .pre .1),
+)
 
-array-share-prefix-numbers : tie.Need-array-share-prefix-numbers
-array-share-prefix-numbers c = search needs
-
--- the array has 259 cells
-few : (c : tie.After-answer-numbers) → c .answer-numbers .result ≤ 259
-few c = omega (arith, c .answer-numbers .ensures .within, c .answer-numbers .kept .0)
-
-slice-aggregate-put-line : tie.Need-slice-aggregate-put-line
-slice-aggregate-put-line c = sym (length-take-le _ _ (c .before .before .before .answer-numbers .ensures .within))
-
-put-line-requires : tie.Need-put-line-requires
-put-line-requires c κs = line-room _ _ _ _ _ _ (c .before .before .before .answer-numbers .ensures) (few (c .before .before .before)) (c .before .before .before .before .before .before .before .pre .1)
+put-byte-requires : tie.Need-put-byte-requires
+put-byte-requires c κs =
+    omega (
+      arith,
+      c .before .before .before .push-answer .ensures .room,
+      c .before .before .before .push-answer .kept .0,
+      c .before .before .before .before .before .before .before .put-digits .ensures .end,
+      c .before .before .before .before .before .before .before .put-digits .kept .0,
+      long-length (c .before .before .before .before .before .before .before .before .before .before .before .args .line) (omega arith),
+      c .before .before .before .before .before .before .before .before .before .before .before .pre .1,
+    )
 
 same-length : tie.Need-same-length
 same-length c = search needs
 
 returns : tie.Need-returns
-returns c = line-pushed _ _ _ _ _ _ _ _ _ (c .before .before .before .before .before .before .answer-numbers .ensures) (few (c .before .before .before .before .before .before)) (c .before .before .put-line .ensures)
+returns c =
+    line-pushed _ _ _ _ _ _ _ _ _ _ (omega arith) (omega arith) (c .before .before .before .before .before .before .before .before .before .before .put-digits .ensures) (c .before .before .before .before .before .before .push-answer .ensures)
+    (c .before .before .put-byte .ensures)
 
 pub answer-line-spec : {M : Type 1} → statement M
 answer-line-spec =
     tie.close
-    (tie.spec
-    slice-aggregate-answer-numbers
-    answer-numbers-requires
-    array-share-prefix-numbers
-    slice-aggregate-put-line
-    put-line-requires
-    same-length
-    returns)
+    (tie.spec put-digits-requires push-answer-requires put-byte-requires same-length returns)

@@ -1,194 +1,199 @@
--- `request_of` is the rules' `callOf`, arm by arm.
-use Prim.Native.Nat.{ℕ}
-use mathlib.Core.Path.{_≡_, sym, ap, _∙_}
-use mathlib.Core.List.{[]}
+-- `request_of` is the rules' `callOf`, field by field.
+use mathlib.Core.Path.{ap, _∙_}
+use native.Mathlib.Omega.{arith}
 use denote.Ref.{now}
-use Rattle.rules.specs.Rights.{op, unknown}
-use Rattle.rules.specs.Script.{nth, callWith}
+use Rattle.rules.specs.Limit as Limit
+use Rattle.rules.specs.Rights.{op}
+use Rattle.rules.specs.Fields.{callerVolume, callerSerial, capVolume, capSerial, capP1, capP2, volume, size, flag}
+use Rattle.rules.specs.Fields.{rights, serial, p1, p2, start, end, sum, word1, word2}
+use Rattle.rules.specs.Script.{nth}
 use Rattle.rules.specs.Script.{callOf as Script·callOf}
-use Rattle.call_steps.proofs.Fitting.{op-unknown}
-use Rattle.script_lines.proofs.Calls.{as-op}
+use Rattle.call_steps.specs.Request.{callOf}
+use Rattle.script_lines.specs.Table as Table
+use Rattle.script_lines.proofs.Rows.{said-in}
+use borrow.Author.Needs.{needs}
 use Rattle.script_lines.proofs.request.request_of.Statement.{statement}
 use Rattle.script_lines.proofs.request.request_of.Tie as tie
 
 nth-requires : tie.Need-nth-requires
-nth-requires c κs = tt
+nth-requires c κs = search needs
 
-make-request-requires : tie.Need-make-request-requires
-make-request-requires c κs = tt
+column-requires : tie.Need-column-requires
+column-requires c κs = search needs
 
-range-request-requires : tie.Need-range-request-requires
-range-request-requires c κs = tt
+array-read-number-at : tie.Need-array-read-number-at
+array-read-number-at c = search needs
 
-range-request-requires-2 : tie.Need-range-request-requires-2
-range-request-requires-2 c κs = tt
+number-at-requires : tie.Need-number-at-requires
+number-at-requires c κs = search needs
 
-plain-request-requires : tie.Need-plain-request-requires
-plain-request-requires c κs = tt
+array-read-number-at-2 : tie.Need-array-read-number-at-2
+array-read-number-at-2 c = search needs
 
-derive-request-requires : tie.Need-derive-request-requires
-derive-request-requires c κs = tt
+number-at-requires-2 : tie.Need-number-at-requires-2
+number-at-requires-2 c κs = search needs
 
-plain-request-requires-2 : tie.Need-plain-request-requires-2
-plain-request-requires-2 c κs = tt
+array-read-number-at-3 : tie.Need-array-read-number-at-3
+array-read-number-at-3 c = search needs
 
-rename-request-requires : tie.Need-rename-request-requires
-rename-request-requires c κs = tt
+number-at-requires-3 : tie.Need-number-at-requires-3
+number-at-requires-3 c κs = search needs
 
-sum-request-requires : tie.Need-sum-request-requires
-sum-request-requires c κs = tt
+array-read-number-at-4 : tie.Need-array-read-number-at-4
+array-read-number-at-4 c = search needs
 
-sum-request-requires-2 : tie.Need-sum-request-requires-2
-sum-request-requires-2 c κs = tt
+number-at-requires-4 : tie.Need-number-at-requires-4
+number-at-requires-4 c κs = search needs
 
-plain-request-requires-3 : tie.Need-plain-request-requires-3
-plain-request-requires-3 c κs = tt
+array-read-number-at-5 : tie.Need-array-read-number-at-5
+array-read-number-at-5 c = search needs
 
-plain-request-requires-4 : tie.Need-plain-request-requires-4
-plain-request-requires-4 c κs = tt
+number-at-requires-5 : tie.Need-number-at-requires-5
+number-at-requires-5 c κs = search needs
 
-lock-request-requires : tie.Need-lock-request-requires
-lock-request-requires c κs = tt
+array-read-number-at-6 : tie.Need-array-read-number-at-6
+array-read-number-at-6 c = search needs
 
-sum-request-requires-3 : tie.Need-sum-request-requires-3
-sum-request-requires-3 c κs = tt
+number-at-requires-6 : tie.Need-number-at-requires-6
+number-at-requires-6 c κs = search needs
 
-plain-request-requires-5 : tie.Need-plain-request-requires-5
-plain-request-requires-5 c κs = tt
+array-read-number-at-7 : tie.Need-array-read-number-at-7
+array-read-number-at-7 c = search needs
 
-plain-request-requires-6 : tie.Need-plain-request-requires-6
-plain-request-requires-6 c κs = tt
+number-at-requires-7 : tie.Need-number-at-requires-7
+number-at-requires-7 c κs = search needs
 
-sum-request-requires-4 : tie.Need-sum-request-requires-4
-sum-request-requires-4 c κs = tt
+array-read-number-at-8 : tie.Need-array-read-number-at-8
+array-read-number-at-8 c = search needs
 
-plain-request-requires-7 : tie.Need-plain-request-requires-7
-plain-request-requires-7 c κs = tt
+number-at-requires-8 : tie.Need-number-at-requires-8
+number-at-requires-8 c κs = search needs
 
-by-number : (c : tie.After-nth) (n : ℕ) → c .nth .result ≡ n → op n ≡ op (nth (now (c .before .before .args .numbers)) 0)
-by-number c n e = ap op (sym e ∙ c .nth .ensures)
+array-read-number-at-9 : tie.Need-array-read-number-at-9
+array-read-number-at-9 c = search needs
+
+number-at-requires-9 : tie.Need-number-at-requires-9
+number-at-requires-9 c κs = search needs
+
+array-read-number-at-10 : tie.Need-array-read-number-at-10
+array-read-number-at-10 c = search needs
+
+number-at-requires-10 : tie.Need-number-at-requires-10
+number-at-requires-10 c κs = search needs
+
+array-read-number-at-11 : tie.Need-array-read-number-at-11
+array-read-number-at-11 c = search needs
+
+number-at-requires-11 : tie.Need-number-at-requires-11
+number-at-requires-11 c κs = search needs
+
+array-read-number-at-12 : tie.Need-array-read-number-at-12
+array-read-number-at-12 c = search needs
+
+number-at-requires-12 : tie.Need-number-at-requires-12
+number-at-requires-12 c κs = search needs
+
+array-read-number-at-13 : tie.Need-array-read-number-at-13
+array-read-number-at-13 c = search needs
+
+number-at-requires-13 : tie.Need-number-at-requires-13
+number-at-requires-13 c κs = search needs
+
+array-read-number-at-14 : tie.Need-array-read-number-at-14
+array-read-number-at-14 c = search needs
+
+number-at-requires-14 : tie.Need-number-at-requires-14
+number-at-requires-14 c κs = search needs
+
+array-read-number-at-15 : tie.Need-array-read-number-at-15
+array-read-number-at-15 c = search needs
+
+number-at-requires-15 : tie.Need-number-at-requires-15
+number-at-requires-15 c κs = search needs
+
+array-read-number-at-16 : tie.Need-array-read-number-at-16
+array-read-number-at-16 c = omega (arith, c .before .before .before .before .before .before .before .before .before .before .before .before .before .before .before .column .ensures .0)
+
+number-at-requires-16 : tie.Need-number-at-requires-16
+number-at-requires-16 c κs = search needs
+
+array-read-number-at-17 : tie.Need-array-read-number-at-17
+array-read-number-at-17 c = omega (arith, c .before .before .before .before .before .before .before .before .before .before .before .before .before .before .before .before .column .ensures .0)
+
+number-at-requires-17 : tie.Need-number-at-requires-17
+number-at-requires-17 c κs = search needs
+
+array-read-number-at-18 : tie.Need-array-read-number-at-18
+array-read-number-at-18 c = omega (arith, c .before .before .before .before .before .before .before .before .before .before .before .before .before .before .before .before .before .column .ensures .0)
+
+number-at-requires-18 : tie.Need-number-at-requires-18
+number-at-requires-18 c κs = search needs
 
 returns : tie.Need-returns
-unfolding op callWith Script·callOf
+unfolding callOf Script·callOf Table.computes
 returns c =
-    as-op _ (now (c .before .before .before .before .args .numbers)) (op 1) (by-number (c .before .before) 1 (c .before .match .keys1)) (c .make-request .ensures (Script·callOf (op 1) (now (c .before .before .before .before .args .numbers)) .bytes))
-
-returns-2 : tie.Need-returns-2
-unfolding op callWith Script·callOf
-returns-2 c =
-    as-op _ (now (c .before .before .before .before .args .numbers)) (op 2) (by-number (c .before .before) 2 (c .before .match .keys2)) (c .range-request .ensures (Script·callOf (op 2) (now (c .before .before .before .before .args .numbers)) .bytes))
-
-returns-3 : tie.Need-returns-3
-unfolding op callWith Script·callOf
-returns-3 c =
-    as-op _ (now (c .before .before .before .before .args .numbers)) (op 3) (by-number (c .before .before) 3 (c .before .match .keys3)) (c .range-request2 .ensures (Script·callOf (op 3) (now (c .before .before .before .before .args .numbers)) .bytes))
-
-returns-4 : tie.Need-returns-4
-unfolding op callWith Script·callOf
-returns-4 c =
-    as-op _ (now (c .before .before .before .before .args .numbers)) (op 4) (by-number (c .before .before) 4 (c .before .match .keys4)) (c .plain-request .ensures (Script·callOf (op 4) (now (c .before .before .before .before .args .numbers)) .bytes))
-
-returns-5 : tie.Need-returns-5
-unfolding op callWith Script·callOf
-returns-5 c =
-    as-op _ (now (c .before .before .before .before .args .numbers)) (op 5) (by-number (c .before .before) 5 (c .before .match .keys5)) (c .derive-request .ensures (Script·callOf (op 5) (now (c .before .before .before .before .args .numbers)) .bytes))
-
-returns-6 : tie.Need-returns-6
-unfolding op callWith Script·callOf
-returns-6 c =
-    as-op _ (now (c .before .before .before .before .args .numbers)) (op 6) (by-number (c .before .before) 6 (c .before .match .keys6)) (c .plain-request2 .ensures (Script·callOf (op 6) (now (c .before .before .before .before .args .numbers)) .bytes))
-
-returns-7 : tie.Need-returns-7
-unfolding op callWith Script·callOf
-returns-7 c =
-    as-op _ (now (c .before .before .before .before .args .numbers)) (op 7) (by-number (c .before .before) 7 (c .before .match .keys7)) (c .rename-request .ensures (Script·callOf (op 7) (now (c .before .before .before .before .args .numbers)) .bytes))
-
-returns-8 : tie.Need-returns-8
-unfolding op callWith Script·callOf
-returns-8 c =
-    as-op _ (now (c .before .before .before .before .args .numbers)) (op 8) (by-number (c .before .before) 8 (c .before .match .keys8)) (c .sum-request .ensures (Script·callOf (op 8) (now (c .before .before .before .before .args .numbers)) .bytes))
-
-returns-9 : tie.Need-returns-9
-unfolding op callWith Script·callOf
-returns-9 c =
-    as-op _ (now (c .before .before .before .before .args .numbers)) (op 9) (by-number (c .before .before) 9 (c .before .match .keys9)) (c .sum-request2 .ensures (Script·callOf (op 9) (now (c .before .before .before .before .args .numbers)) .bytes))
-
-returns-10 : tie.Need-returns-10
-unfolding op callWith Script·callOf
-returns-10 c =
-    as-op _ (now (c .before .before .before .before .args .numbers)) (op 10) (by-number (c .before .before) 10 (c .before .match .keys10)) (c .plain-request3 .ensures (Script·callOf (op 10) (now (c .before .before .before .before .args .numbers)) .bytes))
-
-returns-11 : tie.Need-returns-11
-unfolding op callWith Script·callOf
-returns-11 c =
-    as-op _ (now (c .before .before .before .before .args .numbers)) (op 11) (by-number (c .before .before) 11 (c .before .match .keys11)) (c .plain-request4 .ensures (Script·callOf (op 11) (now (c .before .before .before .before .args .numbers)) .bytes))
-
-returns-12 : tie.Need-returns-12
-unfolding op callWith Script·callOf
-returns-12 c =
-    as-op _ (now (c .before .before .before .before .args .numbers)) (op 12) (by-number (c .before .before) 12 (c .before .match .keys12)) (c .lock-request .ensures (Script·callOf (op 12) (now (c .before .before .before .before .args .numbers)) .bytes))
-
-returns-13 : tie.Need-returns-13
-unfolding op callWith Script·callOf
-returns-13 c =
-    as-op _ (now (c .before .before .before .before .args .numbers)) (op 13) (by-number (c .before .before) 13 (c .before .match .keys13)) (c .sum-request3 .ensures (Script·callOf (op 13) (now (c .before .before .before .before .args .numbers)) .bytes))
-
-returns-14 : tie.Need-returns-14
-unfolding op callWith Script·callOf
-returns-14 c =
-    as-op _ (now (c .before .before .before .before .args .numbers)) (op 14) (by-number (c .before .before) 14 (c .before .match .keys14)) (c .plain-request5 .ensures (Script·callOf (op 14) (now (c .before .before .before .before .args .numbers)) .bytes))
-
-returns-15 : tie.Need-returns-15
-unfolding op callWith Script·callOf
-returns-15 c =
-    as-op _ (now (c .before .before .before .before .args .numbers)) (op 15) (by-number (c .before .before) 15 (c .before .match .keys15)) (c .plain-request6 .ensures (Script·callOf (op 15) (now (c .before .before .before .before .args .numbers)) .bytes))
-
-returns-16 : tie.Need-returns-16
-unfolding op callWith Script·callOf
-returns-16 c =
-    as-op _ (now (c .before .before .before .before .args .numbers)) (op 16) (by-number (c .before .before) 16 (c .before .match .keys16)) (c .sum-request4 .ensures (Script·callOf (op 16) (now (c .before .before .before .before .args .numbers)) .bytes))
-
-returns-17 : tie.Need-returns-17
-unfolding op callWith Script·callOf
-returns-17 c =
-    as-op _ (now (c .before .before .before .before .args .numbers)) unknown (sym (op-unknown _ (c .before .match .rest)) ∙ ap op (c .before .before .nth .ensures)) (c .plain-request7 .ensures [])
+    let l = now (c .before .before .before .before .before .before .before .before .before .before .before .before .before .before .before .before .before .before .before .before .before .args .numbers) in
+    let e = c .before .before .before .before .before .before .before .before .before .before .before .before .before .before .before .before .before .before .column .ensures .1 ∙ ap op (c .before .before .before .before .before .before .before .before .before .before .before .before .before .before .before .before .before .before .before .nth .ensures) in
+    λ i. record {
+      number = (c .before .before .before .before .before .before .before .before .before .before .before .before .before .before .before .before .before .before .before .nth .ensures) i;
+      caller = record { volume = said-in callerVolume _ _ _ _ e (c .before .before .before .before .before .before .before .before .before .before .before .before .before .before .before .before .before .number-at .ensures) i; serial = said-in callerSerial _ _ _ _ e (c .before .before .before .before .before .before .before .before .before .before .before .before .before .before .before .before .number-at2 .ensures) i };
+      presented = record {
+        name = record { volume = said-in capVolume _ _ _ _ e (c .before .before .before .before .before .before .before .before .before .before .before .before .before .before .before .number-at3 .ensures) i; serial = said-in capSerial _ _ _ _ e (c .before .before .before .before .before .before .before .before .before .before .before .before .before .before .number-at4 .ensures) i };
+        password = record { p1 = said-in capP1 _ _ _ _ e (c .before .before .before .before .before .before .before .before .before .before .before .before .before .number-at5 .ensures) i; p2 = said-in capP2 _ _ _ _ e (c .before .before .before .before .before .before .before .before .before .before .before .before .number-at6 .ensures) i };
+      };
+      name = record { volume = said-in volume _ _ _ _ e (c .before .before .before .before .before .before .before .before .before .before .before .number-at7 .ensures) i; serial = said-in serial _ _ _ _ e (c .before .before .before .before .before .before .before .before .before .before .number-at8 .ensures) i };
+      size = said-in size _ _ _ _ e (c .before .before .before .before .before .before .before .before .before .number-at9 .ensures) i;
+      flag = said-in flag _ _ _ _ e (c .before .before .before .before .before .before .before .before .number-at10 .ensures) i;
+      rights = said-in rights _ _ _ _ e (c .before .before .before .before .before .before .before .number-at11 .ensures) i;
+      drawn = record { p1 = said-in p1 _ _ _ _ e (c .before .before .before .before .before .before .number-at12 .ensures) i; p2 = said-in p2 _ _ _ _ e (c .before .before .before .before .before .number-at13 .ensures) i };
+      range = record { start = said-in start _ _ _ _ e (c .before .before .before .before .number-at14 .ensures) i; end = said-in end _ _ _ _ e (c .before .before .before .number-at15 .ensures) i };
+      sum = said-in sum _ _ _ _ e (c .before .before .number-at16 .ensures) i;
+      lock = record { first = said-in word1 _ _ _ _ e (c .before .number-at17 .ensures) i; second = said-in word2 _ _ _ _ e (c .number-at18 .ensures) i };
+      bytes = Script·callOf (op (nth l 0)) l .bytes;
+      buffer = Limit.buffer;
+      scratch = Limit.scratch;
+    }
 
 pub request-of-spec : {M : Type 1} → statement M
 request-of-spec =
     tie.close
     (tie.spec
     nth-requires
-    make-request-requires
-    range-request-requires
-    range-request-requires-2
-    plain-request-requires
-    derive-request-requires
-    plain-request-requires-2
-    rename-request-requires
-    sum-request-requires
-    sum-request-requires-2
-    plain-request-requires-3
-    plain-request-requires-4
-    lock-request-requires
-    sum-request-requires-3
-    plain-request-requires-5
-    plain-request-requires-6
-    sum-request-requires-4
-    plain-request-requires-7
-    returns
-    returns-2
-    returns-3
-    returns-4
-    returns-5
-    returns-6
-    returns-7
-    returns-8
-    returns-9
-    returns-10
-    returns-11
-    returns-12
-    returns-13
-    returns-14
-    returns-15
-    returns-16
-    returns-17)
+    column-requires
+    array-read-number-at
+    number-at-requires
+    array-read-number-at-2
+    number-at-requires-2
+    array-read-number-at-3
+    number-at-requires-3
+    array-read-number-at-4
+    number-at-requires-4
+    array-read-number-at-5
+    number-at-requires-5
+    array-read-number-at-6
+    number-at-requires-6
+    array-read-number-at-7
+    number-at-requires-7
+    array-read-number-at-8
+    number-at-requires-8
+    array-read-number-at-9
+    number-at-requires-9
+    array-read-number-at-10
+    number-at-requires-10
+    array-read-number-at-11
+    number-at-requires-11
+    array-read-number-at-12
+    number-at-requires-12
+    array-read-number-at-13
+    number-at-requires-13
+    array-read-number-at-14
+    number-at-requires-14
+    array-read-number-at-15
+    number-at-requires-15
+    array-read-number-at-16
+    number-at-requires-16
+    array-read-number-at-17
+    number-at-requires-17
+    array-read-number-at-18
+    number-at-requires-18
+    returns)

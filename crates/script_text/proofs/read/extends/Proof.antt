@@ -1,13 +1,10 @@
--- `extends` tests the value before and after the digit.
+-- `extends` tests the digit and what it makes.
 use mathlib.Core.Path.{sym, _∙_}
 use Rattle.script_text.proofs.Scanning.{digit}
-use Rattle.script_text.proofs.Steps.{extends-none, extends-digit, extends-other}
+use Rattle.script_text.proofs.Steps.{extends-digit, extends-other}
 use borrow.Author.Needs.{needs}
 use Rattle.script_text.proofs.read.extends.Statement.{statement}
 use Rattle.script_text.proofs.read.extends.Tie as tie
-
-returns : tie.Need-returns
-returns c = extends-none _ _ (c .if1 .taken)
 
 is-digit-requires : tie.Need-is-digit-requires
 is-digit-requires c κs = search needs
@@ -16,7 +13,7 @@ mul-result : tie.Need-mul-result
 mul-result c = search needs
 
 sub-result : tie.Need-sub-result
-sub-result c = digit _ (sym (c .before .is-digit .ensures) ∙ c .if2 .taken) .low
+sub-result c = digit _ (sym (c .before .is-digit .ensures) ∙ c .if1 .taken) .low
 
 cast-result : tie.Need-cast-result
 cast-result c = search needs
@@ -24,21 +21,13 @@ cast-result c = search needs
 add-result : tie.Need-add-result
 add-result c = search needs
 
-returns-2 : tie.Need-returns-2
-returns-2 c = extends-digit _ _ (c .before .before .if1 .left) (sym (c .before .is-digit .ensures) ∙ c .if2 .taken)
+returns : tie.Need-returns
+returns c = extends-digit _ _ (c .before .before .pre .0) (sym (c .before .is-digit .ensures) ∙ c .if1 .taken)
 
-returns-3 : tie.Need-returns-3
-returns-3 c = extends-other _ _ (c .before .before .if1 .left) (sym (c .before .is-digit .ensures) ∙ c .if2 .left)
+returns-2 : tie.Need-returns-2
+returns-2 c = extends-other _ _ (c .before .before .pre .0) (sym (c .before .is-digit .ensures) ∙ c .if1 .left)
 
 pub extends-spec : {M : Type 1} → statement M
 extends-spec =
     tie.close
-    (tie.spec
-    returns
-    is-digit-requires
-    mul-result
-    sub-result
-    cast-result
-    add-result
-    returns-2
-    returns-3)
+    (tie.spec is-digit-requires mul-result sub-result cast-result add-result returns returns-2)

@@ -1,64 +1,79 @@
--- `put_digits` copies the kit's digits.
-use Prim.Native.Nat.{ℕ, _≤_}
-use mathlib.Core.Path.{_≡_, sym, _∙_}
-use denote.Ref.{now}
+-- `put_digits` writes digit after digit, from the last back.
 use native.Mathlib.Omega.{arith}
-use lib.ListN.{length}
-use Rattle.script_text.specs.Numeral.{numeral}
-use Rattle.script_text.proofs.Pasting.{wrote-number, number-places, part-room}
+use native.Mathlib.Nat.{mod-lt}
+use lib.ListN.{length-set}
 use borrow.Author.Needs.{needs}
+use Rattle.script_text.proofs.Spelling.{Spelling, spelling-none, spelling-more, spelling-all, spelling-place, spelling-first}
 use Rattle.script_text.proofs.write.put_digits.Statement.{statement}
 use Rattle.script_text.proofs.write.put_digits.Tie as tie
 
-decimal-requires : tie.Need-decimal-requires
-decimal-requires c κs = search needs
+abbrev Inv-loop : tie.InvT-loop
+Inv-loop out₀ at n end i₀ rest₀ out i rest = Spelling out₀ at n out i rest
 
-array-share-prefix-text : tie.Need-array-share-prefix-text
-array-share-prefix-text c = search needs
+abbrev μ-loop : tie.MeasureT-loop
+μ-loop out₀ at n end i₀ rest₀ out i rest = rest
 
-slice-aggregate-copy : tie.Need-slice-aggregate-copy
-slice-aggregate-copy c = search needs
+digits-in-requires : tie.Need-digits-in-requires Inv-loop μ-loop
+digits-in-requires c κs = search needs
 
-sub-copy : tie.Need-sub-copy
-sub-copy c = search needs
+add-end : tie.Need-add-end Inv-loop μ-loop
+add-end c = omega (arith, c .digits-in .ensures)
 
-part-copy-start : tie.Need-part-copy-start
-part-copy-start c = search needs
+loop-holds : tie.Need-loop-holds Inv-loop μ-loop
+loop-holds c = spelling-none _ _ _ _ (omega (arith, c .digits-in .ensures))
 
-part-copy-end : tie.Need-part-copy-end
-part-copy-end c = search needs
+sub-i : tie.Need-sub-i Inv-loop μ-loop
+sub-i c = spelling-place _ _ _ _ _ _ (c .before .loop .inv) (c .before .before .before .before .pre) (c .loop-test .taken) .0
 
-places : (c : tie.After-decimal) → c .decimal .result ≡ length (numeral (c .before .before .before .args .n))
-places c = number-places _ _ _ (c .decimal .ensures .1 .0) (c .decimal .ensures .1 .1) (c .decimal .ensures .0 .1)
+cast-out : tie.Need-cast-out Inv-loop μ-loop
+cast-out c = omega (arith, mod-lt (c .before .loop .rest) {m = 10} (omega arith))
 
-copy-requires : tie.Need-copy-requires
-copy-requires c κs =
-    let d = c .before .before in
-    part-room (now (d .before .before .before .args .out)) _ _ _ (d .before .before .before .pre) (sym (d .decimal .ensures .0 .1) ∙ places d)
+add-out : tie.Need-add-out Inv-loop μ-loop
+add-out c = omega (arith, mod-lt (c .before .loop .rest) {m = 10} (omega arith))
 
-add-result : tie.Need-add-result
-add-result c = omega (arith, places (c .before .before .before .before .before))
+slice-write-out : tie.Need-slice-write-out Inv-loop μ-loop
+slice-write-out c = spelling-place _ _ _ _ _ _ (c .before .loop .inv) (c .before .before .before .before .pre) (c .loop-test .taken) .1
 
-same-length : tie.Need-same-length
-same-length c = search needs
+loop-less : tie.Need-loop-less Inv-loop μ-loop
+loop-less c = omega arith
 
-returns : tie.Need-returns
+loop-again : tie.Need-loop-again Inv-loop μ-loop
+loop-again c = spelling-more _ _ _ _ _ _ (c .before .loop .inv) (c .loop-test .taken) (spelling-place _ _ _ _ _ _ (c .before .loop .inv) (c .before .before .before .before .pre) (c .loop-test .taken) .2)
+
+cast-out-2 : tie.Need-cast-out-2 Inv-loop μ-loop
+cast-out-2 c = omega arith
+
+add-out-2 : tie.Need-add-out-2 Inv-loop μ-loop
+add-out-2 c = omega arith
+
+slice-write-out-2 : tie.Need-slice-write-out-2 Inv-loop μ-loop
+slice-write-out-2 c = spelling-first _ _ _ _ _ _ (c .before .loop .inv) (c .before .before .before .before .pre) (c .loop-test .left) .0
+
+same-length : tie.Need-same-length Inv-loop μ-loop
+same-length c = simp length-set (c .before .loop .inv .size)
+
+returns : tie.Need-returns Inv-loop μ-loop
 returns c =
-    let d = c .before .before .before .before .before in
-    wrote-number _ _ _ _ _ _ (omega arith) (d .decimal .ensures .1 .0) (d .decimal .ensures .1 .1) (d .decimal .ensures .0 .1)
-    (c .before .before .copy .ensures .1)
+    spelling-all _ _ _ _ _ _ (c .before .loop .inv) (c .loop-test .left) (spelling-first _ _ _ _ _ _ (c .before .loop .inv) (c .before .before .before .before .pre) (c .loop-test .left) .1) _
+    (omega (arith, c .before .before .digits-in .ensures))
 
 pub put-digits-spec : {M : Type 1} → statement M
 put-digits-spec =
     tie.close
     (tie.spec
-    decimal-requires
-    array-share-prefix-text
-    slice-aggregate-copy
-    sub-copy
-    part-copy-start
-    part-copy-end
-    copy-requires
-    add-result
+    Inv-loop
+    μ-loop
+    digits-in-requires
+    add-end
+    loop-holds
+    sub-i
+    cast-out
+    add-out
+    slice-write-out
+    loop-less
+    loop-again
+    cast-out-2
+    add-out-2
+    slice-write-out-2
     same-length
     returns)
