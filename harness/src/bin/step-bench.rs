@@ -6,7 +6,7 @@
 //! `step-bench NAME ROUNDS`.
 
 use harness::kernel::{self, FormedStore};
-use harness::request::Request;
+use harness::request::{Request, REPLY};
 use reference::call::{Action, Call, Key, Name, Operation};
 use reference::kernel::MAX_RIGHTS;
 use reference::layout::{BYTES, LINKS, WORDS};
@@ -163,10 +163,10 @@ fn cases(hall: &Hall) -> Vec<Case> {
 
 impl Case {
     fn round(&mut self, buffer: &mut [u8], scratch: &mut [u16]) {
-        let mut store = self.store.clone();
+        let (mut store, mut reply) = (self.store.clone(), [0; REPLY]);
         let start = Instant::now();
         for request in &self.requests {
-            assert_eq!(store.step(request, buffer, scratch)[0], 0, "{}", self.kind);
+            assert_eq!(store.step_into(request, buffer, scratch, &mut reply), 0, "{}", self.kind);
         }
         self.times.push(u64::try_from(start.elapsed().as_nanos()).unwrap_or(u64::MAX));
     }
