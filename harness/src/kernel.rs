@@ -110,19 +110,20 @@ type Entry = unsafe extern "C" fn(
     usize,
 ) -> u32;
 
+/// The code alone is handed back; the reply is written into its slice.
 fn enter(
     entry: Entry,
     raw: &mut RawStore,
     request: &Request,
     buffer: &mut [u8],
     scratch: &mut [u16],
-) -> [u32; REPLY] {
+    reply: &mut [u32; REPLY],
+) -> u32 {
     let RawStore { bytes, links, words } = raw;
     let (numbers, text) = (&request.numbers, &request.text);
-    let mut reply = [0; REPLY];
     // SAFETY: each pointer comes with its slice's length; the slices that are written are lent
     // for writing, and no two overlap. `store_step_unchecked` is handed well-formed stores alone.
-    let code = unsafe {
+    unsafe {
         entry(
             bytes.as_mut_ptr(),
             bytes.len(),
@@ -141,7 +142,18 @@ fn enter(
             reply.as_mut_ptr(),
             reply.len(),
         )
-    };
+    }
+}
+
+fn reply_of(
+    entry: Entry,
+    raw: &mut RawStore,
+    request: &Request,
+    buffer: &mut [u8],
+    scratch: &mut [u16],
+) -> [u32; REPLY] {
+    let mut reply = [0; REPLY];
+    let code = enter(entry, raw, request, buffer, scratch, &mut reply);
     assert_eq!(code, reply[0], "the code is returned, too");
     reply
 }
@@ -153,7 +165,7 @@ pub fn call(
     buffer: &mut [u8],
     scratch: &mut [u16],
 ) -> [u32; REPLY] {
-    enter(store_call, raw, request, buffer, scratch)
+    reply_of(store_call, raw, request, buffer, scratch)
 }
 
 /// A store that the verified check has found well formed, and only `step` has changed since.
@@ -173,7 +185,18 @@ impl FormedStore {
         buffer: &mut [u8],
         scratch: &mut [u16],
     ) -> [u32; REPLY] {
-        enter(store_step_unchecked, &mut self.0, request, buffer, scratch)
+        reply_of(store_step_unchecked, &mut self.0, request, buffer, scratch)
+    }
+
+    /// The same, with the reply written into its slice: its code.
+    pub fn step_into(
+        &mut self,
+        request: &Request,
+        buffer: &mut [u8],
+        scratch: &mut [u16],
+        reply: &mut [u32; REPLY],
+    ) -> u32 {
+        enter(store_step_unchecked, &mut self.0, request, buffer, scratch, reply)
     }
 
     pub fn raw(&self) -> &RawStore {

@@ -92,3 +92,13 @@ module _ {l w : List ℕ} {k : ℕ} (way : Way) (sum : ℕ) where
       ≡ set (climbMoved way l w (parentOf l k) sum) (Layout.MONEY + k) (moves way sum (moneyOf w k))
   unfolding climbMoved through
   moved-step s = rw (s .cons)
+
+-- two steps of it: the slot above k is up, W is the rest's change, m and n what becomes of k's and of up's
+pub moved-two : {l w : List ℕ} {k : ℕ} (way : Way) (sum : ℕ) → Step l w k → Step l w (parentOf l k)
+    → (W : List ℕ) (up m n : ℕ) → up ≡ parentOf l k → W ≡ climbMoved way l w (parentOf l (parentOf l k)) sum
+    → n ≡ moves way sum (moneyOf w (parentOf l k)) → m ≡ moves way sum (moneyOf w k)
+    → set (set W (Layout.MONEY + up) n) (Layout.MONEY + k) m ≡ climbMoved way l w k sum
+moved-two {l} {w} {k} way sum s t W up m n e f g h =
+    (λ d. set (set (f d) (Layout.MONEY + e d) (g d)) (Layout.MONEY + k) (h d))
+    ∙ sym (moved-step way sum s
+    ∙ ap (λ u. set u (Layout.MONEY + k) (moves way sum (moneyOf w k))) (moved-step way sum t))

@@ -12,7 +12,7 @@ use layout::MONEY;
 use layout::PARENT;
 use values::moneyword::Moneyword;
 
-// Some moneyword from k up to its master stops the sum.
+// Some moneyword from k up to its master stops the sum. Each call takes two steps of the climb.
 pub fn climb_stops(way: Way, links: &[u16], words: &[u32], k: usize, sum: u32) -> bool
     requires { ⌜ Climbable (now links) (now words) k ⌝ }
     ensures { λ r. ⌜ r ≡ climbStops way (now (links .entry)) (now (words .entry)) k sum ⌝ }
@@ -23,7 +23,14 @@ pub fn climb_stops(way: Way, links: &[u16], words: &[u32], k: usize, sum: u32) -
     if way.stops(purse(words, k), sum) {
         return true;
     }
-    climb_stops(way, links, words, above(links, k), sum)
+    let up = above(links, k);
+    if up == 0 {
+        return false;
+    }
+    if way.stops(purse(words, up), sum) {
+        return true;
+    }
+    climb_stops(way, links, words, above(links, up), sum)
 }
 
 // Moves the sum out of each moneyword from k up to its master, or into each.
@@ -35,7 +42,14 @@ pub fn climb_moves(way: Way, links: &[u16], words: &mut [u32], k: usize, sum: u3
         return;
     }
     let m = way.moves(purse(words, k), sum);
-    climb_moves(way, links, words, above(links, k), sum);
+    let up = above(links, k);
+    if up == 0 {
+        words[MONEY + k] = m.0;
+        return;
+    }
+    let n = way.moves(purse(words, up), sum);
+    climb_moves(way, links, words, above(links, up), sum);
+    words[MONEY + up] = n.0;
     words[MONEY + k] = m.0;
 }
 

@@ -7,11 +7,11 @@ use mathlib.Core.List.{List}
 use native.Mathlib.Omega.{arith}
 use lib.Dec.{eqb}
 use lib.ListN.{getD}
-use borrow.Author.Tests.{eq-eqb, ne-eqb}
+use borrow.Author.Tests.{eq-eqb, ne-eqb, eqb-true}
 use Rattle.rules.specs.Store.{Name, State, sameName, noObject, objectNamed}
 use Rattle.rules.specs.Slots.{find}
 use Rattle.rules.specs.Refusals.{running}
-use Rattle.rules.proofs.Tests.{all2, by-eq}
+use Rattle.rules.proofs.Tests.{all2, by-eq, refuted}
 use Rattle.layout.specs.Layout as Layout
 use Rattle.layout.specs.Rows.{field, masterOf, flagOf}
 use Rattle.layout.specs.View.{isSet, isProcess, view}
@@ -47,14 +47,7 @@ module _ (b l w : List ℕ) (n : Name) (o : ℕ) (at : ObjectSlot o) where
       row Layout.SERIAL l o at,
     )
 
-    -- x and y are its volume and its serial
-    pub named-else : (x : ℕ) → x ≡ getD b (Layout.VOLUME + o) 0 → x ≢ n .volume → false ≡ named (view b l w) n o
-    named-else x e ne = sym (named-here ∙ rw (ne-eqb (getD b (Layout.VOLUME + o) 0) (n .volume) (λ q. ne (e ∙ q))))
-
-    pub named-serial : (x : ℕ) → x ≡ getD b (Layout.VOLUME + o) 0 → x ≡ n .volume
-        → (y : ℕ) → y ≡ getD l (Layout.SERIAL + o) 0 → eqb y (n .serial) ≡ named (view b l w) n o
-    named-serial x e q y f =
-        rw f (sym (named-here ∙ rw (eq-eqb (getD b (Layout.VOLUME + o) 0) (n .volume) (sym e ∙ q))))
+  -- ---- x and y are its serial and its volume
 
   pub named-cell : named (view b l w) n o ≡ true → cellIs Layout.SERIAL l (n .serial) o ≡ true
   unfolding cellIs
@@ -63,6 +56,29 @@ module _ (b l w : List ℕ) (n : Name) (o : ℕ) (at : ObjectSlot o) where
       (λ alive.
       all2 (eqb (getD b (Layout.VOLUME + o) 0) (n .volume)) (eqb (getD l (Layout.SERIAL + o) 0) (n .serial))
       (sym (named-here alive) ∙ h) .1)
+
+  -- another serial
+  pub named-other : (x : ℕ) → x ≡ getD l (Layout.SERIAL + o) 0 → x ≢ n .serial → false ≡ named (view b l w) n o
+  unfolding cellIs
+  named-other x e ne = sym (refuted (named (view b l w) n o)
+      (λ h. ne (e ∙ eqb-true (getD l (Layout.SERIAL + o) 0) (n .serial) (named-cell h))))
+
+  -- another volume
+  pub named-else : (y : ℕ) → y ≡ getD b (Layout.VOLUME + o) 0 → y ≢ n .volume → false ≡ named (view b l w) n o
+  named-else y e ne = by-eq (getD l (Layout.MASTER + o) 0) 0 named-none
+      (λ alive. sym (named-here alive
+      ∙ rw (ne-eqb (getD b (Layout.VOLUME + o) 0) (n .volume) (λ q. ne (e ∙ q)))))
+
+  -- the name: it is the object's, if one lives there
+  pub named-lives : (x : ℕ) → x ≡ getD l (Layout.SERIAL + o) 0 → x ≡ n .serial
+      → (y : ℕ) → y ≡ getD b (Layout.VOLUME + o) 0 → y ≡ n .volume
+      → not (eqb (getD l (Layout.MASTER + o) 0) 0) ≡ named (view b l w) n o
+  named-lives x e p y f q = by-eq (getD l (Layout.MASTER + o) 0) 0
+      (λ z. rw (eq-eqb (getD l (Layout.MASTER + o) 0) 0 z) (named-none z))
+      (λ alive. rw (ne-eqb (getD l (Layout.MASTER + o) 0) 0 alive) (sym (named-here alive ∙ rw (
+        eq-eqb (getD b (Layout.VOLUME + o) 0) (n .volume) (sym f ∙ q),
+        eq-eqb (getD l (Layout.SERIAL + o) 0) (n .serial) (sym e ∙ p),
+      ))))
 
 -- the search of the serials does for the names
 pub named-from : (b l w : List ℕ) (n : Name) (r : ℕ) → SameFrom (cellIs Layout.SERIAL l (n .serial)) 64 r

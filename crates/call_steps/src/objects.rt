@@ -28,11 +28,11 @@ fn is_named(bytes: &[u8], links: &[u16], o: usize, name: Name) -> bool
     requires { ⌜ Sizes (now bytes) (now links) ⌝ ∗ ⌜ ObjectSlot o ⌝ }
     ensures { λ r. ⌜ ((w : List ℕ) → r ≡ named (view (now (bytes .entry)) (now (links .entry)) w) (nameOf name) o) ⌝ }
 {
-    if links[MASTER + o] == 0 {
+    if wide16(links[SERIAL + o]) == name.serial {
+        if wide8(bytes[VOLUME + o]) == name.volume {
+            return links[MASTER + o] != 0;
+        }
         return false;
-    }
-    if wide8(bytes[VOLUME + o]) == name.volume {
-        return wide16(links[SERIAL + o]) == name.serial;
     }
     false
 }

@@ -17,29 +17,31 @@ pub struct Capability {
     pub password: [u32; 2],
 }
 
-// Every call's arguments by their names; a call looks at its own alone.
+// Every call's arguments by their names; a call looks at its own alone. Pairs stand first, so that each lies in one
+// 8-byte word, and is read as such from where it was just stored.
 pub struct Request {
-    pub number: u32,
     pub caller: Name,
     pub presented: Capability,
     pub name: Name,
+    pub drawn: [u32; 2],
+    pub range: Window,
+    pub lock: [u32; 2],
+    pub number: u32,
     pub size: u32,
     pub flag: u32,
     pub rights: u32,
-    pub drawn: [u32; 2],
-    pub range: Window,
     pub sum: u32,
-    pub lock: [u32; 2],
 }
 
-// 0 or the refusal, and the results; `count` bytes stand at the buffer's front.
+// 0 or the refusal, and the results; `count` bytes stand at the buffer's front. Numbers that are handed over side by side
+// stand apart here: read as one, they would wait for the stores of both.
 pub struct Reply {
-    pub code: u32,
-    pub capability: Capability,
-    pub length: u32,
-    pub moneyword: u32,
-    pub sum: u32,
     pub count: u32,
+    pub length: u32,
+    pub capability: Capability,
+    pub moneyword: u32,
+    pub code: u32,
+    pub sum: u32,
 }
 
 impl Reply {

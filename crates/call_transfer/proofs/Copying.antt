@@ -1,31 +1,49 @@
--- The loops that copy: the block that the walk is at, and one store more.
-use Prim.Native.Nat.{ℕ, _+_, _*_, _/_, _%_, _≤_, _<_}
-use mathlib.Core.Path.{_≡_, ap}
+-- The loops that copy: the block that the walk is at, and the part of the copy that stands in it.
+use Prim.Native.Nat.{ℕ, zero, suc, _+_, _*_, _-_, _/_, _%_, _≤_, _<_, min}
+use mathlib.Core.Path.{_≡_, refl, sym, ap, _∙_}
 use mathlib.Core.List.{List}
 use native.Mathlib.Omega.{arith}
-use native.Mathlib.Numerals.{add-one}
 use lib.ListN.{set}
 use Rattle.rules.specs.Store.{blocks}
 use Rattle.layout.specs.Layout as Layout
 use Rattle.layout.specs.Rows.{nextBlockOf}
 use Rattle.call_transfer.specs.Runs.{hop, cellOf, Blocked, laid, CopyAsks}
 
--- byte start + i, of n, stands in the block
+-- byte start + i, of n, stands in the block, if there is one more
 pub record Walking (l : List ℕ) (head start n i block : ℕ) : Type 0 where
   pub below : i ≤ n
-  pub block-is : block ≡ hop (nextBlockOf l) ((start + i) / 64) head
+  pub block-is : i < n → block ≡ hop (nextBlockOf l) ((start + i) / 64) head
 
--- the step's store
-pub laid-more : (place value : ℕ → ℕ) (xs ys : List ℕ) (n a v : ℕ) → ys ≡ laid place value n xs → a ≡ place n
-    → v ≡ value n → set ys a v ≡ laid place value (n + 1) xs
+-- ---- stores after stores
+
+pub laid-same : (place place′ value value′ : ℕ → ℕ) (xs : List ℕ) (n : ℕ) → ((j : ℕ) → j < n → place j ≡ place′ j)
+    → ((j : ℕ) → j < n → value j ≡ value′ j) → laid place value n xs ≡ laid place′ value′ n xs
 unfolding laid
-laid-more place value xs ys n a v e p q = rw (add-one n, laid, e, p, q)
+laid-same place place′ value value′ xs zero p v = refl
+laid-same place place′ value value′ xs (suc n) p v =
+    let rest = laid-same place place′ value value′ xs n (λ j h. p j (omega arith)) (λ j h. v j (omega arith)) in
+    λ d. set (rest d) (p n (omega arith) d) (v n (omega arith) d)
 
--- the cell that the code computes
-pub cell-is : (l : List ℕ) (head p block : ℕ) → block ≡ hop (nextBlockOf l) (p / 64) head
-    → Layout.DATA + block * 64 + p % 64 ≡ cellOf l head p
-unfolding cellOf
-cell-is l head p block e = ap (λ x. Layout.DATA + x * 64 + p % 64) e
+laid-on : (place value : ℕ → ℕ) (xs : List ℕ) (i m : ℕ)
+    → laid place value (i + m) xs ≡ laid (λ j. place (i + j)) (λ j. value (i + j)) m (laid place value i xs)
+unfolding laid
+laid-on place value xs i zero =
+    let e : i + 0 ≡ i = omega arith in
+    rw e
+laid-on place value xs i (suc m) =
+    let e : i + suc m ≡ suc (i + m) = omega arith in
+    rw (e, laid) (ap (λ ys. set ys (place (i + m)) (value (i + m))) (laid-on place value xs i m))
+
+-- m stores after i of them, in their order, are i + m
+pub laid-more : (place value place′ value′ : ℕ → ℕ) (xs ys zs : List ℕ) (i m : ℕ) → ys ≡ laid place value i xs
+    → zs ≡ laid place′ value′ m ys → ((j : ℕ) → j < m → place (i + j) ≡ place′ j)
+    → ((j : ℕ) → j < m → value (i + j) ≡ value′ j) → zs ≡ laid place value (i + m) xs
+laid-more place value place′ value′ xs ys zs i m e f p v =
+    f ∙ ap (laid place′ value′ m) e
+    ∙ sym (laid-on place value xs i m
+    ∙ laid-same (λ j. place (i + j)) place′ (λ j. value (i + j)) value′ (laid place value i xs) m p v)
+
+-- ---- the walk
 
 module _ {b l : List ℕ} {head start n : ℕ} (a : CopyAsks b l head start n) where
   -- the walk to the first byte's block stays among the blocks
@@ -36,15 +54,27 @@ module _ {b l : List ℕ} {head start n : ℕ} (a : CopyAsks b l head start n) w
   pub walk-starts : (block : ℕ) → block ≡ hop (nextBlockOf l) (start / 64) head → Walking l head start n 0 block
   walk-starts block e =
       let z : start + 0 ≡ start = omega arith in
-      record { below = omega arith; block-is = rw z e }
+      record { below = omega arith; block-is = λ _. rw z e }
 
   module _ {i block : ℕ} (w : Walking l head start n i block) (more : i < n) where
     pub walk-block : (1 ≤ block) × (block ≤ 512)
     unfolding blocks
-    walk-block = rw (w .block-is) (a .blocked ((start + i) / 64) (omega arith))
+    walk-block = rw (w .block-is more) (a .blocked ((start + i) / 64) (omega arith))
 
-    pub walk-on : (r : ℕ) → r ≡ hop (nextBlockOf l) ((start + i + 1) / 64) head
-        → Walking l head start n (i + 1) r
-    walk-on r e =
-        let z : start + (i + 1) ≡ start + i + 1 = omega arith in
-        record { below = omega arith; block-is = rw z e }
+    -- m bytes stand in the block
+    module _ (m : ℕ) (part : m ≡ min (n - i) (64 - (start + i) % 64)) where
+      pub part-cell : (j : ℕ) → j < m → cellOf l head (start + (i + j)) ≡ Layout.DATA + block * 64 + (start + i) % 64 + j
+      unfolding cellOf
+      part-cell j h =
+          let q : (start + (i + j)) / 64 ≡ (start + i) / 64 = omega arith in
+          let r : (start + (i + j)) % 64 ≡ (start + i) % 64 + j = omega arith in
+          rw (q, r, ← w .block-is more) (omega arith)
+
+      pub walk-on : (r : ℕ) → r ≡ nextBlockOf l block → Walking l head start n (i + m) r
+      unfolding hop
+      walk-on r e = record {
+        below = omega arith;
+        block-is = λ h.
+            let q : (start + (i + m)) / 64 ≡ suc ((start + i) / 64) = omega arith in
+            rw (q, hop) (e ∙ ap (nextBlockOf l) (w .block-is more));
+      }

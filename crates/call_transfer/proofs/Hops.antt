@@ -24,19 +24,6 @@ module _ (next : ℕ → ℕ) where
   hop-next zero k = refl
   hop-next (suc n) k = ap next (hop-next n k)
 
-  -- the block of byte p + 1: the next one where that is a block's first byte, else the same
-  pub hop-more : (k p head : ℕ) → k ≡ hop next (p / 64) head → (p + 1) % 64 ≡ 0
-      → next k ≡ hop next ((p + 1) / 64) head
-  unfolding hop
-  hop-more k p head e z =
-      let q : (p + 1) / 64 ≡ suc (p / 64) = omega arith in
-      rw (q, hop) (ap next e)
-
-  pub hop-stays : (k p head : ℕ) → k ≡ hop next (p / 64) head → (p + 1) % 64 ≢ 0 → k ≡ hop next ((p + 1) / 64) head
-  hop-stays k p head e nz =
-      let q : (p + 1) / 64 ≡ p / 64 = omega arith in
-      rw q e
-
   -- a block of a chain stands in it
   pub hop-in : (head : ℕ) (xs : List ℕ) → Chain 512 next head xs → (i : ℕ) → i < length xs
       → 1 ≤ times (hop next i head) xs

@@ -1,5 +1,5 @@
 // The blocks of an object, 64 bytes each: byte p stands in the block that comes p / 64 blocks after the first.
-ghost use Prim.Native.Nat.{ℕ, _+_, _/_, _≤_};
+ghost use Prim.Native.Nat.{_≤_};
 ghost use mathlib.Core.Path.{_≡_};
 ghost use lib.ListN.{length};
 ghost use Rattle.layout.specs.Layout as Layout;
@@ -27,16 +27,4 @@ pub fn block_at(links: &[u16], head: usize, n: usize) -> usize
         i += 1;
     }
     block
-}
-
-// The block of byte p + 1, where k is that of byte p.
-pub fn block_after(links: &[u16], k: usize, p: usize) -> usize
-    requires { ⌜ (length (now links) ≡ Layout.LINKS) × (1 ≤ k) × (k ≤ 512) × (p ≤ 8192) ⌝ }
-    ensures { λ r. ⌜ ((head : ℕ) → k ≡ hop (nextBlockOf (now (links .entry))) (p / 64) head
-        → r ≡ hop (nextBlockOf (now (links .entry))) ((p + 1) / 64) head) ⌝ }
-{
-    if (p + 1) % 64 == 0 {
-        return next_block(links, k);
-    }
-    k
 }

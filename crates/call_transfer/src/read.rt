@@ -3,11 +3,14 @@ ghost use Prim.Native.Nat.{_≤_};
 ghost use mathlib.Core.Path.{_≡_};
 ghost use lib.ListN.{length};
 ghost use Rattle.call_transfer.specs.Runs.{CopyAsks, copiedOut, ReadAsks, Reads};
-use crate::chain::block_after;
 use crate::chain::block_at;
+use crate::chain::next_block;
+use crate::part::copy_part;
+use crate::part::part_of;
 use crate::window::first_block;
 use crate::window::in_window;
 use layout::DATA;
+use values::limit::BLOCK_SIZE;
 
 // n bytes from start on, of the object whose first block is head, to the buffer's front.
 fn copy_out(bytes: &[u8], links: &[u16], buffer: &mut [u8], head: usize, start: usize, n: usize)
@@ -15,13 +18,15 @@ fn copy_out(bytes: &[u8], links: &[u16], buffer: &mut [u8], head: usize, start: 
     ensures { λ _. ⌜ now (buffer .exit)
         ≡ copiedOut (now (bytes .entry)) (now (links .entry)) head start n (now (buffer .entry)) ⌝ }
 {
-    let mut block = block_at(links, head, start / 64);
+    let mut block = block_at(links, head, start / BLOCK_SIZE);
     let mut i: usize = 0;
     while i < n {
         let p = start + i;
-        buffer[i] = bytes[DATA + block * 64 + p % 64];
-        block = block_after(links, block, p);
-        i += 1;
+        let m = part_of(p, n - i);
+        let from = DATA + block * BLOCK_SIZE + p % BLOCK_SIZE;
+        copy_part(bytes, from, buffer, i, m);
+        block = next_block(links, block);
+        i += m;
     }
 }
 

@@ -3,11 +3,14 @@ ghost use mathlib.Core.Path.{_≡_};
 ghost use lib.ListN.{length};
 ghost use Rattle.call_steps.specs.Run.{over};
 ghost use Rattle.call_transfer.specs.Runs.{CopyAsks, copiedIn, WriteAsks, writeRun};
-use crate::chain::block_after;
 use crate::chain::block_at;
+use crate::chain::next_block;
+use crate::part::copy_part;
+use crate::part::part_of;
 use crate::window::first_block;
 use crate::window::in_window;
 use layout::DATA;
+use values::limit::BLOCK_SIZE;
 
 // The data to the bytes from start on of the object whose first block is head.
 fn copy_in(bytes: &mut [u8], links: &[u16], source: &[u8], head: usize, start: usize)
@@ -15,13 +18,15 @@ fn copy_in(bytes: &mut [u8], links: &[u16], source: &[u8], head: usize, start: u
     ensures { λ _. ⌜ now (bytes .exit) ≡ copiedIn (now (links .entry)) head start (now (source .entry))
         (length (now (source .entry))) (now (bytes .entry)) ⌝ }
 {
-    let mut block = block_at(links, head, start / 64);
+    let mut block = block_at(links, head, start / BLOCK_SIZE);
     let mut i: usize = 0;
     while i < source.len() {
         let p = start + i;
-        bytes[DATA + block * 64 + p % 64] = source[i];
-        block = block_after(links, block, p);
-        i += 1;
+        let m = part_of(p, source.len() - i);
+        let to = DATA + block * BLOCK_SIZE + p % BLOCK_SIZE;
+        copy_part(source, i, bytes, to, m);
+        block = next_block(links, block);
+        i += m;
     }
 }
 

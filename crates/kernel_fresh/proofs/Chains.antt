@@ -1,5 +1,5 @@
--- A chain of free records: what its cells hold, and that it is the chain of exactly the records from the first to the
--- last. One law for objects, capabilities and blocks.
+-- A chain of free records: what its cells hold, and that it is the chain of exactly the records from the last down to
+-- the first. One law for objects, capabilities and blocks.
 use Prim.Native.Nat.{ℕ, zero, suc, _+_, _-_, _≤_, _<_}
 use mathlib.Core.Path.{_≡_, refl, ap, _∙_, fun-ext}
 use mathlib.Core.Logic.{_≢_}
@@ -23,7 +23,8 @@ use Rattle.kernel_fresh.proofs.Cells.{field-agree, apart, apart-cells, 
 length-chain : (off i k : ℕ) (l : List ℕ) → length (chain off i k l) ≡ length l
 unfolding chain
 length-chain off i zero l = length-set l (off + i) _
-length-chain off i (suc k) l = length-chain off (i + 1) k (set l (off + i) (i + 1)) ∙ length-set l (off + i) (i + 1)
+length-chain off i (suc k) l =
+    length-chain off i k (set l (off + (i + k + 1)) (i + k)) ∙ length-set l (off + (i + k + 1)) (i + k)
 
 -- a cell below the first record's or above the last one's
 chain-else : (off i k : ℕ) (l : List ℕ) (c : ℕ) → ((j : ℕ) → i ≤ j → j ≤ i + k → c ≢ off + j)
@@ -31,33 +32,31 @@ chain-else : (off i k : ℕ) (l : List ℕ) (c : ℕ) → ((j : ℕ) → i ≤ j
 unfolding chain
 chain-else off i zero l c n = getD-set-other l (off + i) c _ 0 (n i (omega arith) (omega arith))
 chain-else off i (suc k) l c n =
-    chain-else off (i + 1) k (set l (off + i) (i + 1)) c (λ j a b. n j (omega arith) (omega arith))
-    ∙ getD-set-other l (off + i) c (i + 1) 0 (n i (omega arith) (omega arith))
+    chain-else off i k (set l (off + (i + k + 1)) (i + k)) c (λ j a b. n j a (omega arith))
+    ∙ getD-set-other l (off + (i + k + 1)) c (i + k) 0 (n (i + k + 1) (omega arith) (omega arith))
 
-chain-last : (off i k : ℕ) (l : List ℕ) → off + i + k < length l → getD (chain off i k l) (off + (i + k)) 0 ≡ 0
+-- the first record ends the chain
+chain-first : (off i k : ℕ) (l : List ℕ) → off + i + k < length l → getD (chain off i k l) (off + i) 0 ≡ 0
 unfolding chain
-chain-last off i zero l h =
-    let e : i + 0 ≡ i = omega arith in
-    rw e (getD-set-same l (off + i) 0 0 (omega arith))
-chain-last off i (suc k) l h =
-    let e : i + suc k ≡ i + 1 + k = omega arith in
-    rw e (chain-last off (i + 1) k (set l (off + i) (i + 1)) (rw length-set (omega arith)))
+chain-first off i zero l h = getD-set-same l (off + i) 0 0 (omega arith)
+chain-first off i (suc k) l h =
+    chain-first off i k (set l (off + (i + k + 1)) (i + k)) (rw length-set (omega arith))
 
+-- each other names the one before it
 chain-next : (off i k : ℕ) (l : List ℕ) (j : ℕ) → off + i + k < length l → i ≤ j → j < i + k
-    → getD (chain off i k l) (off + j) 0 ≡ j + 1
+    → getD (chain off i k l) (off + (j + 1)) 0 ≡ j
 unfolding chain
 chain-next off i zero l j h a b = absurd (omega arith)
-chain-next off i (suc k) l j h a b = by-eq j i
-    (λ e. rw e (chain-else off (i + 1) k (set l (off + i) (i + 1)) (off + i) (λ x p q r. omega arith)
-    ∙ getD-set-same l (off + i) (i + 1) 0 (omega arith)))
-    (λ n. chain-next off (i + 1) k (set l (off + i) (i + 1)) j
-    (rw length-set (omega arith)) (omega arith) (omega arith))
+chain-next off i (suc k) l j h a b = by-eq j (i + k)
+    (λ e. rw e (chain-else off i k (set l (off + (i + k + 1)) (i + k)) (off + (i + k + 1)) (λ x p q r. omega arith)
+    ∙ getD-set-same l (off + (i + k + 1)) (i + k) 0 (omega arith)))
+    (λ n. chain-next off i k (set l (off + (i + k + 1)) (i + k)) j (rw length-set (omega arith)) a (omega arith))
 
 -- ---- the fields, for `simp`
 
 pub length-free : (head off first last : ℕ) (l : List ℕ) → length (freeChain head off first last l) ≡ length l
 unfolding freeChain
-length-free head off first last l = length-chain off first (last - first) (set l head first) ∙ length-set l head first
+length-free head off first last l = length-chain off first (last - first) (set l head last) ∙ length-set l head last
 
 -- another row
 pub free-apart : (n at head off first last : ℕ) (l : List ℕ)
@@ -68,9 +67,9 @@ free-apart n at head off first last l a b some =
     let h : first ≤ last = leb-true first last some in
     fun-ext (λ j. field-agree n at (freeChain head off first last l) l j
     (λ low high.
-    chain-else off first (last - first) (set l head first) (at + j)
+    chain-else off first (last - first) (set l head last) (at + j)
     (λ k p q. apart-cells n at (off + first) (off + last) j (off + k) b low high (omega arith) (omega arith))
-    ∙ getD-set-other l head (at + j) first 0
+    ∙ getD-set-other l head (at + j) last 0
     (apart-cells n at head head j head a low high (omega arith) (omega arith))))
 
 -- a cell that is not in the row, and not the head
@@ -80,59 +79,62 @@ pub free-else : (head off first last : ℕ) (l : List ℕ) (c : ℕ)
 unfolding freeChain
 free-else head off first last l c below other =
     let b : c < off + first = ltb-true c (off + first) below in
-    chain-else off first (last - first) (set l head first) c (λ j p q r. omega arith)
-    ∙ set-else l head c first other
+    chain-else off first (last - first) (set l head last) c (λ j p q r. omega arith)
+    ∙ set-else l head c last other
 
 -- the head
 pub free-head : (head off first last : ℕ) (l : List ℕ) → ltb head (off + first) ≡ true → ltb head (length l) ≡ true
-    → getD (freeChain head off first last l) head 0 ≡ first
+    → getD (freeChain head off first last l) head 0 ≡ last
 unfolding freeChain
 free-head head off first last l below in-list =
     let b : head < off + first = ltb-true head (off + first) below in
-    chain-else off first (last - first) (set l head first) head (λ j p q r. omega arith)
-    ∙ set-here l head first in-list
+    chain-else off first (last - first) (set l head last) head (λ j p q r. omega arith)
+    ∙ set-here l head last in-list
 
 -- ---- the chain
 
--- k records from i on
+-- k records, the last first: i + k - 1 down to i
 pub records : ℕ → ℕ → List ℕ
 records i zero = []
-records i (suc k) = i ∷ records (i + 1) k
+records i (suc k) = (i + k) ∷ records i k
 
--- the records from first to n are the chain from first on, each once; those before have no next
+-- the records from n down to first are the chain from n on, each once; those before have no next
 pub record FreeFrom (n first : ℕ) (next : ℕ → ℕ) : Type 0 where
   pub free : List ℕ
-  pub free-chain : Chain n next first free
+  pub free-chain : Chain n next n free
   pub has : (k : ℕ) → first ≤ k → k ≤ n → times k free ≡ 1
   pub none : (k : ℕ) → k < first → times k free ≡ 0
   pub before : (k : ℕ) → k < first → next k ≡ 0
 
-times-below : (i m k : ℕ) → k < i → times k (records i m) ≡ 0
+times-out : (i m k : ℕ) → ((j : ℕ) → i ≤ j → j < i + m → k ≢ j) → times k (records i m) ≡ 0
 unfolding times records one
-times-below i zero k h = refl
-times-below i (suc m) k h = rw (ne-eqb k i (λ e. omega arith), one) (rw (times-below (i + 1) m k (omega arith)))
+times-out i zero k h = refl
+times-out i (suc m) k h =
+    rw (ne-eqb k (i + m) (h (i + m) (omega arith) (omega arith)), one)
+    (rw (times-out i m k (λ j a b. h j a (omega arith))))
 
 times-in : (i m k : ℕ) → i ≤ k → k < i + m → times k (records i m) ≡ 1
 unfolding times records one
 times-in i zero k a b = absurd (omega arith)
-times-in i (suc m) k a b = by-eq k i
-    (λ e. rw (eq-eqb k i e, one) (rw (times-below (i + 1) m k (omega arith))))
-    (λ n. rw (ne-eqb k i n, one) (rw (times-in (i + 1) m k (omega arith) (omega arith))))
+times-in i (suc m) k a b = by-eq k (i + m)
+    (λ e. rw (eq-eqb k (i + m) e, one) (rw (times-out i m k (λ j p q r. omega arith))))
+    (λ n. rw (ne-eqb k (i + m) n, one) (rw (times-in i m k a (omega arith))))
 
-module _ (n : ℕ) (next : ℕ → ℕ) (end : next n ≡ 0) where
-  chain-records : (i k : ℕ) → 1 ≤ i → i + k ≡ n → ((j : ℕ) → i ≤ j → j < n → next j ≡ j + 1)
-      → Chain n next i (records i (suc k))
+module _ (n : ℕ) (next : ℕ → ℕ) (i : ℕ) (low : 1 ≤ i) (end : next i ≡ 0) where
+  chain-records : (k : ℕ) → i + k ≤ n → ((j : ℕ) → i ≤ j → j < i + k → next (j + 1) ≡ j)
+      → Chain n next (i + k) (records i (suc k))
   unfolding Chain records
-  chain-records i zero low e step =
-      let q : i ≡ n = omega arith in
-      (refl, low, omega arith, rw q end)
-  chain-records i (suc k) low e step = (
-    refl,
-    low,
-    omega arith,
-    rw (step i (omega arith) (omega arith))
-        (chain-records (i + 1) k (omega arith) (omega arith) (λ j a b. step j (omega arith) b)),
-  )
+  chain-records zero high step =
+      let e : i + 0 ≡ i = omega arith in
+      (refl, omega arith, high, rw e end)
+  chain-records (suc k) high step =
+      let e : i + suc k ≡ i + k + 1 = omega arith in (
+        refl,
+        omega arith,
+        high,
+        rw (e, step (i + k) (omega arith) (omega arith))
+            (chain-records k (omega arith) (λ j a b. step j a (omega arith))),
+      )
 
 -- a chain of free records in a row of zeros
 pub free-from : (n head off first : ℕ) (l : List ℕ) → 1 ≤ first → first < n → head ≤ off → off + n < length l
@@ -140,22 +142,23 @@ pub free-from : (n head off first : ℕ) (l : List ℕ) → 1 ≤ first → firs
     → FreeFrom n first (field n off (freeChain head off first n l))
 unfolding freeChain
 free-from n head off first l low high below fits zero-before =
-    let m = set l head first in
+    let m = set l head n in
+    let next : ℕ → ℕ = field n off (freeChain head off first n l) in
     let in-list : off + first + (n - first) < length m = rw length-set (omega arith) in
     let e : first + (n - first) ≡ n = omega arith in
     record {
       free = records first (suc (n - first));
-      free-chain = chain-records n (field n off (freeChain head off first n l))
-          (field-in n off (freeChain head off first n l) n (omega arith) (omega arith)
-          ∙ rw e at (chain-last off first (n - first) m in-list))
-          first (n - first) low e
-          (λ j a b. field-in n off (freeChain head off first n l) j (omega arith) (omega arith)
-          ∙ chain-next off first (n - first) m j in-list a (omega arith));
+      free-chain = rw e at (chain-records n next first low
+          (field-in n off (freeChain head off first n l) first (omega arith) (omega arith)
+          ∙ chain-first off first (n - first) m in-list)
+          (n - first) (omega arith)
+          (λ j a b. field-in n off (freeChain head off first n l) (j + 1) (omega arith) (omega arith)
+          ∙ chain-next off first (n - first) m j in-list a b));
       has = λ k a b. times-in first (suc (n - first)) k a (omega arith);
-      none = λ k a. times-below first (suc (n - first)) k a;
+      none = λ k a. times-out first (suc (n - first)) k (λ j p q r. omega arith);
       before = λ j a.
           field-agree n off (freeChain head off first n l) l j
           (λ p q. chain-else off first (n - first) m (off + j) (λ x r s u. omega arith)
-          ∙ getD-set-other l head (off + j) first 0 (λ u. omega arith))
+          ∙ getD-set-other l head (off + j) n 0 (λ u. omega arith))
           ∙ ap (λ (f : ℕ → ℕ). f j) zero-before;
     }

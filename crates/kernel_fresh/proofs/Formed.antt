@@ -62,7 +62,7 @@ module _ {n : ℕ} {next : ℕ → ℕ} (F : FreeFrom n 2 next) where
       (λ e. absurd (omega (arith, F .none k (omega arith))))
       (λ m. at-else none 1 1 k m)
 
-objects-of : {next : ℕ → ℕ} → FreeFrom 64 2 next → ObjectChains (only 1) next 1 2
+objects-of : {next : ℕ → ℕ} → FreeFrom 64 2 next → ObjectChains (only 1) next 1 64
 unfolding Chain times one at
 objects-of {next} F = record {
   live = 1 ∷ [];
@@ -105,7 +105,7 @@ module _ {next : ℕ → ℕ} (F : FreeFrom 512 2 next) where
       (λ o n. rw (at-else (λ j. nil) 1 (node 1 nil nil) o n))
       ∙ omega arith
 
-  caps-of : CapTrees (only 1) (only 1) none none next none 2
+  caps-of : CapTrees (only 1) (only 1) none none next none 512
   unfolding trees
   caps-of = record {
     tree = trees;
@@ -118,7 +118,7 @@ module _ {next : ℕ → ℕ} (F : FreeFrom 512 2 next) where
   }
 
 -- no block is in use
-blocks-of : {next : ℕ → ℕ} → FreeFrom 512 1 next → BlockChains (only 1) none none next 1
+blocks-of : {next : ℕ → ℕ} → FreeFrom 512 1 next → BlockChains (only 1) none none next 512
 unfolding Chain times blocks
 blocks-of {next} F = record {
   chain = λ o. [];

@@ -117,15 +117,15 @@ pub objects-head : getD freshLinks Layout.OBJECTS 0 ≡ 1
 unfolding freshLinks freeLinks firstLinks
 objects-head = simp cells
 
-pub free-objects-head : getD freshLinks Layout.«FREE_OBJECTS» 0 ≡ 2
+pub free-objects-head : getD freshLinks Layout.«FREE_OBJECTS» 0 ≡ 64
 unfolding freshLinks freeLinks firstLinks
 free-objects-head = simp cells
 
-pub free-caps-head : getD freshLinks Layout.«FREE_CAPS» 0 ≡ 2
+pub free-caps-head : getD freshLinks Layout.«FREE_CAPS» 0 ≡ 512
 unfolding freshLinks freeLinks firstLinks
 free-caps-head = simp cells
 
-pub free-blocks-head : getD freshLinks Layout.«FREE_BLOCKS» 0 ≡ 1
+pub free-blocks-head : getD freshLinks Layout.«FREE_BLOCKS» 0 ≡ 512
 unfolding freshLinks freeLinks firstLinks
 free-blocks-head = simp cells
 

@@ -1,5 +1,7 @@
--- The test of the climb meets its contract. The measure is the length of the climb that is left.
-use mathlib.Core.Path.{_≡_, sym, _∙_}
+-- The test of the climb meets its contract, two steps of it in each call. The measure is the length of the climb that
+-- is left.
+use mathlib.Core.Path.{_≡_, sym, ap, _∙_}
+use mathlib.Core.Bool.{false}
 use Prim.Native.Nat.{ℕ, _<_}
 use native.Mathlib.Omega.{arith}
 use borrow.Fn.Kinds.{In}
@@ -49,11 +51,33 @@ module _ (t : ℕ) where
   here : (c : Here) → Step (start c .args .links .now) (start c .args .words .now) (start c .args .k)
   here c = step-of (start c .pre .1) (c .if1 .left)
 
-  -- what the test of the moneyword says
+  -- past the third the slot above k is not 0
+  abbrev There : Type 0
+  There = lts.Else3 calls given stops-all.Post
+
+  abbrev below-it : There → Here
+  below-it c = c .before .before .before .before .before
+
+  there : (c : There) → let at = start (below-it c) .args in
+      Step (at .links .now) (at .words .now) (parentOf (at .links .now) (at .k))
+  there c = step-of (here (below-it c) .next) (λ z. c .if3 .left (c .before .above .ensures ∙ z))
+
+  -- what the tests of the two moneywords say
   tested : (c : lts.After-stops calls given stops-all.Post)
       → let at = start (c .before .before) .args in
       c .stops .result ≡ stopsAt (at .way) (at .sum) (moneyOf (at .words .now) (at .k))
   tested c = rw (c .before .purse .ensures) at (c .stops .ensures)
+
+  tested-above : (c : lts.After-stops2 calls given stops-all.Post)
+      → let at = start (below-it (c .before .before)) .args in
+      c .stops2 .result ≡ stopsAt (at .way) (at .sum) (moneyOf (at .words .now) (parentOf (at .links .now) (at .k)))
+  tested-above c =
+      rw (c .before .purse2 .ensures, c .before .before .before .above .ensures) at (c .stops2 .ensures)
+
+  passed : (c : lts.Else2 calls given stops-all.Post)
+      → let at = start (c .before .before .before) .args in
+      stopsAt (at .way) (at .sum) (moneyOf (at .words .now) (at .k)) ≡ false
+  passed c = sym (tested (c .before)) ∙ c .if2 .left
 
   returns : lts.Need-returns calls given stops-all.Post
   returns c =
@@ -77,26 +101,69 @@ module _ (t : ℕ) where
       let s = here at in
       (start at .pre .1 .links, s .low, s .high)
 
-  again-requires : lts.Need-climb-stops-requires calls given stops-all.Post
-  again-requires c κs =
-      let at = c .before .before .before .before in
-      let s = here at in
-      rw (c .above .ensures) (omega (arith, s .fewer, start at .pre .0), s .next)
-
-  -- the test of the rest, from the slot above on
-  rest : (c : lts.After-climb-stops calls given stops-all.Post)
-      → let at = start (c .before .before .before .before .before) .args in
-      c .climb-stops .result
-      ≡ climbStops (at .way) (at .links .now) (at .words .now) (parentOf (at .links .now) (at .k)) (at .sum)
-  rest c = rw (c .before .above .ensures) at (c .climb-stops .ensures)
-
+  -- k is a master
   returns-3 : lts.Need-returns-3 calls given stops-all.Post
   returns-3 c =
+      let at = c .before .before .before .before .before in
+      let a = start at .args in
+      sym (stops-next (a .way) (a .sum) (here at) (passed (c .before .before))
+      ∙ stops-top (a .way) (a .sum) (here at .next) (sym (c .before .above .ensures) ∙ c .if3 .taken))
+
+  purse-requires-2 : lts.Need-purse-requires-2 calls given stops-all.Post
+  purse-requires-2 c κs =
+      let s = there c in
+      rw (c .before .above .ensures) (start (below-it c) .pre .1 .words, s .low, s .high)
+
+  stops-requires-2 : lts.Need-stops-requires-2 calls given stops-all.Post
+  stops-requires-2 c κs = tt
+
+  returns-4 : lts.Need-returns-4 calls given stops-all.Post
+  returns-4 c =
+      let x = c .before .before .before in
+      let at = below-it x in
+      let a = start at .args in
+      sym (stops-next (a .way) (a .sum) (here at) (passed (x .before .before))
+      ∙ stops-here (a .way) (a .sum) (there x) (sym (tested-above (c .before)) ∙ c .if4 .taken))
+
+  above-requires-2 : lts.Need-above-requires-2 calls given stops-all.Post
+  above-requires-2 c κs =
+      let x = c .before .before .before in
+      let s = there x in
+      rw (x .before .above .ensures) (start (below-it x) .pre .1 .links, s .low, s .high)
+
+  -- the slot two above k
+  two-up : (c : lts.After-above2 calls given stops-all.Post)
+      → let at = start (below-it (c .before .before .before .before)) .args in
+      c .above2 .result ≡ parentOf (at .links .now) (parentOf (at .links .now) (at .k))
+  two-up c =
+      let x = c .before .before .before .before in
+      c .above2 .ensures ∙ ap (parentOf (start (below-it x) .args .links .now)) (x .before .above .ensures)
+
+  again-requires : lts.Need-climb-stops-requires calls given stops-all.Post
+  again-requires c κs =
+      let x = c .before .before .before .before in
+      let s = there x in
+      let at = below-it x in
+      rw (two-up c) (omega (arith, s .fewer, here at .fewer, start at .pre .0), s .next)
+
+  -- the test of the rest, from there on
+  rest : (c : lts.After-climb-stops calls given stops-all.Post)
+      → let at = start (below-it (c .before .before .before .before .before)) .args in
+      c .climb-stops .result
+      ≡ climbStops (at .way) (at .links .now) (at .words .now)
+      (parentOf (at .links .now) (parentOf (at .links .now) (at .k))) (at .sum)
+  rest c = rw (two-up (c .before)) at (c .climb-stops .ensures)
+
+  returns-5 : lts.Need-returns-5 calls given stops-all.Post
+  returns-5 c =
       let test = c .before .before in
-      let at = test .before .before .before in
-      let passed = sym (tested (test .before)) ∙ test .if2 .left in
-      rest c ∙ sym (stops-next (start at .args .way) (start at .args .sum) (here at) passed)
+      let x = test .before .before .before in
+      let at = below-it x in
+      let a = start at .args in
+      rest c ∙ sym (stops-next (a .way) (a .sum) (here at) (passed (x .before .before))
+      ∙ stops-next (a .way) (a .sum) (there x) (sym (tested-above (test .before)) ∙ test .if4 .left))
 
 pub +climb-stops-spec : {M : Type 1} → statement M
 +climb-stops-spec = close μ λ t. lts.spec (calls t) (given t) stops-all.Post
-    (returns t) (purse-requires t) (stops-requires t) (returns-2 t) (above-requires t) (again-requires t) (returns-3 t)
+    (returns t) (purse-requires t) (stops-requires t) (returns-2 t) (above-requires t) (returns-3 t)
+    (purse-requires-2 t) (stops-requires-2 t) (returns-4 t) (above-requires-2 t) (again-requires t) (returns-5 t)

@@ -1,11 +1,13 @@
--- `copy_out` copies byte by byte, and walks the chain once.
-use Prim.Native.Nat.{_+_, _-_, _≤_}
+-- `copy_out` copies part by part, and walks the chain once.
+use Prim.Native.Nat.{_+_, _*_, _-_, _%_, _≤_}
 use mathlib.Core.Path.{_≡_, refl, ap, _∙_}
 use native.Mathlib.Omega.{arith}
 use lib.ListN.{getD, length}
+use Rattle.layout.specs.Layout as Layout
 use Rattle.call_transfer.specs.Runs.{cellOf, laid, copiedOut}
 use Rattle.call_transfer.proofs.Laid.{laid-length}
-use Rattle.call_transfer.proofs.Copying.{Walking, walk-blocked, walk-starts, walk-block, walk-on, cell-is, laid-more}
+use Rattle.call_transfer.proofs.Copying.{Walking, walk-blocked, walk-starts, walk-block, part-cell, walk-on, laid-more}
+use borrow.Author.Needs.{needs}
 use Rattle.call_transfer.proofs.read.copy_out.Statement.{statement}
 use Rattle.call_transfer.proofs.read.copy_out.Tie as tie
 
@@ -22,6 +24,9 @@ here c =
     let s = c .before .before .before .before .before .before in
     walk-block (s .pre .0) (c .before .loop .inv .0) (c .loop-test .taken)
 
+size : (c : tie.At-loop Inv-loop μ-loop) → length (c .loop .buffer) ≡ length (c .before .before .before .before .before .args .buffer .now)
+size c = ap length (c .loop .inv .1) ∙ laid-length _ _ (c .before .before .before .before .before .args .buffer .now) (c .loop .i)
+
 block-at-requires : tie.Need-block-at-requires Inv-loop μ-loop
 block-at-requires c κs = let s = c .before .before .before in (s .pre .0 .links, walk-blocked (s .pre .0))
 
@@ -32,56 +37,60 @@ loop-holds c = (walk-starts (c .before .before .before .before .pre .0) _ (c .bl
 add-p : tie.Need-add-p Inv-loop μ-loop
 add-p c = omega (arith, c .before .before .before .before .before .before .pre .0 .small)
 
-mul-buffer : tie.Need-mul-buffer Inv-loop μ-loop
-mul-buffer c = omega (arith, here c)
+sub-part-of : tie.Need-sub-part-of Inv-loop μ-loop
+sub-part-of c = search needs
 
-add-buffer : tie.Need-add-buffer Inv-loop μ-loop
-add-buffer c = omega (arith, here c)
+part-of-requires : tie.Need-part-of-requires Inv-loop μ-loop
+part-of-requires c κs = search needs
 
-add-buffer-2 : tie.Need-add-buffer-2 Inv-loop μ-loop
-add-buffer-2 c = omega (arith, here c)
+mul-from : tie.Need-mul-from Inv-loop μ-loop
+mul-from c = omega (arith, here (c .before))
 
-shared-slice-read-buffer : tie.Need-shared-slice-read-buffer Inv-loop μ-loop
-shared-slice-read-buffer c =
-    let s = c .before .before .before .before .before .before .before in
-    omega (arith, here (c .before), s .pre .0 .bytes)
+add-from : tie.Need-add-from Inv-loop μ-loop
+add-from c = omega (arith, here (c .before))
 
-slice-write-buffer : tie.Need-slice-write-buffer Inv-loop μ-loop
-slice-write-buffer c =
-    let now = c .before .before .loop in
-    let s = c .before .before .before .before .before .before .before in
-    let q : length (now .buffer) ≡ length (s .args .buffer .now) =
-    ap length (now .inv .1) ∙ laid-length _ _ (s .args .buffer .now) (now .i) in
-    omega (arith, s .pre .1)
+add-from-2 : tie.Need-add-from-2 Inv-loop μ-loop
+add-from-2 c = omega (arith, here (c .before))
 
-block-after-requires : tie.Need-block-after-requires Inv-loop μ-loop
-block-after-requires c κs =
-    let s = c .before .before .before .before .before .before .before in
-    (s .pre .0 .links, here (c .before) .0, here (c .before) .1, omega (arith, s .pre .0 .small))
+copy-part-requires : tie.Need-copy-part-requires Inv-loop μ-loop
+copy-part-requires c κs =
+    let s = c .before .before .before .before .before .before .before .before in
+    let part = c .before .part-of .ensures in (
+      omega (arith, here (c .before .before), part, s .pre .0 .bytes),
+      omega (arith, size (c .before .before .before), part, s .pre .1),
+    )
+
+next-block-requires : tie.Need-next-block-requires Inv-loop μ-loop
+next-block-requires c κs =
+    let at = here (c .before .before .before .before .before) in
+    (c .before .before .before .before .before .before .before .before .before .before .before .pre .0 .links, at .0, at .1)
 
 add-i : tie.Need-add-i Inv-loop μ-loop
-add-i c = omega arith
+add-i c = omega (arith, c .before .before .before .before .before .part-of .ensures, c .before .before .before .before .before .before .before .before .before .before .before .before .pre .0 .small)
 
 loop-less : tie.Need-loop-less Inv-loop μ-loop
-loop-less c = omega arith
+loop-less c = omega (arith, c .before .before .before .before .before .part-of .ensures, c .before .before .before .before .before .before .loop-test .taken)
 
 loop-again : tie.Need-loop-again Inv-loop μ-loop
 loop-again c =
-    let s = c .before .before .before .before .before .before .before .before in
+    let u = c .before .before .before .before .before in
+    let v = u .before in
+    let s = c .before .before .before .before .before .before .before .before .before .before .before .before in
     let a = s .args in
-    let now = c .before .before .before .loop in
-    let w = now .inv .0 in (
-      walk-on (s .pre .0) w (c .before .before .loop-test .taken) _ (c .block-after .ensures (a .head) (w .block-is)),
+    let now = v .before .loop in
+    let w = now .inv .0 in
+    let part = u .part-of .ensures in (
+      walk-on (s .pre .0) w (v .loop-test .taken) _ part _ (c .next-block .ensures),
       laid-more (λ i. i) (λ i. getD (a .bytes .now) (cellOf (a .links .now) (a .head) (a .start + i)) 0)
-          (a .buffer .now) (now .buffer) (now .i) _ _ (now .inv .1) refl
-          (ap (λ x. getD (a .bytes .now) x 0)
-          (cell-is (a .links .now) (a .head) (a .start + now .i) (now .block) (w .block-is))),
+          (λ j. now .i + j)
+          (λ j. getD (a .bytes .now) (Layout.DATA + now .block * 64 + (a .start + now .i) % 64 + j) 0)
+          (a .buffer .now) (now .buffer) _ (now .i) _ (now .inv .1) (c .before .before .before .copy-part .ensures)
+          (λ j h. refl)
+          (λ j h. ap (λ x. getD (a .bytes .now) x 0) (part-cell (s .pre .0) w (v .loop-test .taken) _ part j h)),
     )
 
 same-length : tie.Need-same-length Inv-loop μ-loop
-same-length c =
-    let s = c .before .before .before .before .before .before in
-    ap length (c .before .loop .inv .1) ∙ laid-length _ _ (s .args .buffer .now) (c .before .loop .i)
+same-length c = size (c .before)
 
 returns : tie.Need-returns Inv-loop μ-loop
 returns c =
@@ -100,12 +109,13 @@ copy-out-spec =
     block-at-requires
     loop-holds
     add-p
-    mul-buffer
-    add-buffer
-    add-buffer-2
-    shared-slice-read-buffer
-    slice-write-buffer
-    block-after-requires
+    sub-part-of
+    part-of-requires
+    mul-from
+    add-from
+    add-from-2
+    copy-part-requires
+    next-block-requires
     add-i
     loop-less
     loop-again

@@ -1,11 +1,13 @@
--- `copy_in` copies byte by byte, and walks the chain once.
-use Prim.Native.Nat.{_+_, _-_, _≤_}
+-- `copy_in` copies part by part, and walks the chain once.
+use Prim.Native.Nat.{_+_, _*_, _-_, _%_, _≤_}
 use mathlib.Core.Path.{_≡_, refl, ap, _∙_}
 use native.Mathlib.Omega.{arith}
 use lib.ListN.{getD, length}
+use Rattle.layout.specs.Layout as Layout
 use Rattle.call_transfer.specs.Runs.{cellOf, laid, copiedIn}
 use Rattle.call_transfer.proofs.Laid.{laid-length}
-use Rattle.call_transfer.proofs.Copying.{Walking, walk-blocked, walk-starts, walk-block, walk-on, cell-is, laid-more}
+use Rattle.call_transfer.proofs.Copying.{Walking, walk-blocked, walk-starts, walk-block, part-cell, walk-on, laid-more}
+use borrow.Author.Needs.{needs}
 use Rattle.call_transfer.proofs.write.copy_in.Statement.{statement}
 use Rattle.call_transfer.proofs.write.copy_in.Tie as tie
 
@@ -22,6 +24,9 @@ here c =
     let s = c .before .before .before .before .before .before in
     walk-block (s .pre) (c .before .loop .inv .0) (c .loop-test .taken)
 
+size : (c : tie.At-loop Inv-loop μ-loop) → length (c .loop .bytes) ≡ length (c .before .before .before .before .before .args .bytes .now)
+size c = ap length (c .loop .inv .1) ∙ laid-length _ _ (c .before .before .before .before .before .args .bytes .now) (c .loop .i)
+
 block-at-requires : tie.Need-block-at-requires Inv-loop μ-loop
 block-at-requires c κs = let s = c .before .before .before in (s .pre .links, walk-blocked (s .pre))
 
@@ -32,53 +37,60 @@ loop-holds c = (walk-starts (c .before .before .before .before .pre) _ (c .block
 add-p : tie.Need-add-p Inv-loop μ-loop
 add-p c = omega (arith, c .before .before .before .before .before .before .pre .small)
 
-shared-slice-read-bytes : tie.Need-shared-slice-read-bytes Inv-loop μ-loop
-shared-slice-read-bytes c = omega (arith, c .before .loop-test .taken)
+sub-part-of : tie.Need-sub-part-of Inv-loop μ-loop
+sub-part-of c = search needs
 
-mul-bytes : tie.Need-mul-bytes Inv-loop μ-loop
-mul-bytes c = omega (arith, here (c .before))
+part-of-requires : tie.Need-part-of-requires Inv-loop μ-loop
+part-of-requires c κs = search needs
 
-add-bytes : tie.Need-add-bytes Inv-loop μ-loop
-add-bytes c = omega (arith, here (c .before))
+mul-to : tie.Need-mul-to Inv-loop μ-loop
+mul-to c = omega (arith, here (c .before))
 
-add-bytes-2 : tie.Need-add-bytes-2 Inv-loop μ-loop
-add-bytes-2 c = omega (arith, here (c .before))
+add-to : tie.Need-add-to Inv-loop μ-loop
+add-to c = omega (arith, here (c .before))
 
-slice-write-bytes : tie.Need-slice-write-bytes Inv-loop μ-loop
-slice-write-bytes c =
-    let now = c .before .before .loop in
-    let s = c .before .before .before .before .before .before .before in
-    let q : length (now .bytes) ≡ length (s .args .bytes .now) =
-    ap length (now .inv .1) ∙ laid-length _ _ (s .args .bytes .now) (now .i) in
-    omega (arith, here (c .before), s .pre .bytes)
+add-to-2 : tie.Need-add-to-2 Inv-loop μ-loop
+add-to-2 c = omega (arith, here (c .before))
 
-block-after-requires : tie.Need-block-after-requires Inv-loop μ-loop
-block-after-requires c κs =
-    let s = c .before .before .before .before .before .before .before in
-    (s .pre .links, here (c .before) .0, here (c .before) .1, omega (arith, s .pre .small))
+copy-part-requires : tie.Need-copy-part-requires Inv-loop μ-loop
+copy-part-requires c κs =
+    let s = c .before .before .before .before .before .before .before .before in
+    let part = c .before .part-of .ensures in (
+      omega (arith, part, c .before .before .loop-test .taken),
+      omega (arith, here (c .before .before), part, size (c .before .before .before), s .pre .bytes),
+    )
+
+next-block-requires : tie.Need-next-block-requires Inv-loop μ-loop
+next-block-requires c κs =
+    let at = here (c .before .before .before .before .before) in
+    (c .before .before .before .before .before .before .before .before .before .before .before .pre .links, at .0, at .1)
 
 add-i : tie.Need-add-i Inv-loop μ-loop
-add-i c = omega arith
+add-i c = omega (arith, c .before .before .before .before .before .part-of .ensures, c .before .before .before .before .before .before .before .before .before .before .before .before .pre .small)
 
 loop-less : tie.Need-loop-less Inv-loop μ-loop
-loop-less c = omega arith
+loop-less c = omega (arith, c .before .before .before .before .before .part-of .ensures, c .before .before .before .before .before .before .loop-test .taken)
 
 loop-again : tie.Need-loop-again Inv-loop μ-loop
 loop-again c =
-    let s = c .before .before .before .before .before .before .before .before in
+    let u = c .before .before .before .before .before in
+    let v = u .before in
+    let s = c .before .before .before .before .before .before .before .before .before .before .before .before in
     let a = s .args in
-    let now = c .before .before .before .loop in
-    let w = now .inv .0 in (
-      walk-on (s .pre) w (c .before .before .loop-test .taken) _ (c .block-after .ensures (a .head) (w .block-is)),
-      laid-more (λ i. cellOf (a .links .now) (a .head) (a .start + i)) (λ i. getD (a .source .now) i 0) (a .bytes .now)
-          (now .bytes) (now .i) _ _ (now .inv .1)
-          (cell-is (a .links .now) (a .head) (a .start + now .i) (now .block) (w .block-is)) refl,
+    let now = v .before .loop in
+    let w = now .inv .0 in
+    let part = u .part-of .ensures in (
+      walk-on (s .pre) w (v .loop-test .taken) _ part _ (c .next-block .ensures),
+      laid-more (λ i. cellOf (a .links .now) (a .head) (a .start + i)) (λ i. getD (a .source .now) i 0)
+          (λ j. Layout.DATA + now .block * 64 + (a .start + now .i) % 64 + j)
+          (λ j. getD (a .source .now) (now .i + j) 0)
+          (a .bytes .now) (now .bytes) _ (now .i) _ (now .inv .1) (c .before .before .before .copy-part .ensures)
+          (λ j h. part-cell (s .pre) w (v .loop-test .taken) _ part j h)
+          (λ j h. refl),
     )
 
 same-length : tie.Need-same-length Inv-loop μ-loop
-same-length c =
-    let s = c .before .before .before .before .before .before in
-    ap length (c .before .loop .inv .1) ∙ laid-length _ _ (s .args .bytes .now) (c .before .loop .i)
+same-length c = size (c .before)
 
 returns : tie.Need-returns Inv-loop μ-loop
 returns c =
@@ -96,12 +108,13 @@ copy-in-spec =
     block-at-requires
     loop-holds
     add-p
-    shared-slice-read-bytes
-    mul-bytes
-    add-bytes
-    add-bytes-2
-    slice-write-bytes
-    block-after-requires
+    sub-part-of
+    part-of-requires
+    mul-to
+    add-to
+    add-to-2
+    copy-part-requires
+    next-block-requires
     add-i
     loop-less
     loop-again

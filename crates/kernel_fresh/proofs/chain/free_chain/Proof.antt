@@ -11,10 +11,10 @@ use Rattle.kernel_fresh.proofs.chain.free_chain.Tie as tie
 abbrev Inv-loop : tie.InvT-loop
 Inv-loop links₀ head off first last i₀ links i =
     (first ≤ i) × (i ≤ last) × (length links ≡ length links₀)
-    × (chain off first (last - first) links₀ ≡ chain off i (last - i) links)
+    × (chain off first (last - first) links₀ ≡ chain off first (i - first) links)
 
 abbrev μ-loop : tie.MeasureT-loop
-μ-loop links₀ head off first last i₀ links i = last - i
+μ-loop links₀ head off first last i₀ links i = i
 
 mul-links : tie.Need-mul-links Inv-loop μ-loop
 mul-links c = omega arith
@@ -28,16 +28,16 @@ loop-holds c = (omega arith, omega arith, refl, refl)
 size : (c : tie.At-loop Inv-loop μ-loop) → length (c .loop .links) ≡ length (c .before .args .links .now)
 size c =
     let a = c .before .args in
-    c .loop .inv .2 ∙ length-set (a .links .now) (a .head) (a .first)
+    c .loop .inv .2 ∙ length-set (a .links .now) (a .head) (a .last)
 
-add-links : tie.Need-add-links Inv-loop μ-loop
-add-links c = omega arith
+sub-links : tie.Need-sub-links Inv-loop μ-loop
+sub-links c = omega arith
 
 cast-links : tie.Need-cast-links Inv-loop μ-loop
 cast-links c = omega arith
 
-add-links-2 : tie.Need-add-links-2 Inv-loop μ-loop
-add-links-2 c = omega (arith, size (c .before))
+add-links : tie.Need-add-links Inv-loop μ-loop
+add-links c = omega (arith, size (c .before))
 
 mul-links-2 : tie.Need-mul-links-2 Inv-loop μ-loop
 mul-links-2 c = omega (arith, size (c .before))
@@ -45,8 +45,8 @@ mul-links-2 c = omega (arith, size (c .before))
 slice-write-links-2 : tie.Need-slice-write-links-2 Inv-loop μ-loop
 slice-write-links-2 c = omega (arith, size (c .before))
 
-add-i : tie.Need-add-i Inv-loop μ-loop
-add-i c = omega arith
+sub-i : tie.Need-sub-i Inv-loop μ-loop
+sub-i c = omega arith
 
 loop-less : tie.Need-loop-less Inv-loop μ-loop
 loop-less c = omega arith
@@ -57,12 +57,12 @@ loop-again c =
     let a = c .before .before .args in (
       omega arith,
       omega arith,
-      length-set (l .links) (a .off + l .i) (l .i + 1) ∙ l .inv .2,
-      l .inv .3 ∙ chain-turn (a .off) (l .i) (a .last) (l .links) (c .loop-test .taken),
+      length-set (l .links) (a .off + l .i) (l .i - 1) ∙ l .inv .2,
+      l .inv .3 ∙ chain-turn (a .off) (a .first) (l .i) (l .links) (c .loop-test .taken),
     )
 
-add-links-3 : tie.Need-add-links-3 Inv-loop μ-loop
-add-links-3 c = omega (arith, size (c .before))
+add-links-2 : tie.Need-add-links-2 Inv-loop μ-loop
+add-links-2 c = omega (arith, size (c .before))
 
 mul-links-3 : tie.Need-mul-links-3 Inv-loop μ-loop
 mul-links-3 c = omega (arith, size (c .before))
@@ -78,7 +78,7 @@ unfolding freeChain
 returns c =
     let l = c .before .loop in
     let a = c .before .before .args in
-    sym (l .inv .3 ∙ chain-end (a .off) (l .i) (a .last) (l .links) (omega arith))
+    sym (l .inv .3 ∙ chain-end (a .off) (a .first) (l .i) (l .links) (omega arith))
 
 pub free-chain-spec : {M : Type 1} → statement M
 free-chain-spec =
@@ -89,15 +89,15 @@ free-chain-spec =
     mul-links
     slice-write-links
     loop-holds
-    add-links
+    sub-links
     cast-links
-    add-links-2
+    add-links
     mul-links-2
     slice-write-links-2
-    add-i
+    sub-i
     loop-less
     loop-again
-    add-links-3
+    add-links-2
     mul-links-3
     slice-write-links-3
     same-length
