@@ -10,8 +10,8 @@ use harness::request::{Request, REPLY};
 use reference::call::{Action, Call, Key, Name, Operation};
 use reference::numbers::MAX_RIGHTS;
 use trials::layout::{BYTES, LINKS, WORDS};
-use reference::random::Random;
-use reference::raw::RawStore;
+use trials::random::Random;
+use trials::raw::RawStore;
 use std::time::Instant;
 
 /// Each kind has so many turns, and so many rounds of its calls in a turn.
