@@ -36,15 +36,15 @@ call a = callOn (a .args .req) (a .args .text .now) (was a)
 -- the request's numbers are 32-bit: what its type says of its fields
 given-fits : (a : tie.Start) (i : ℕ) → Fits w32 (getD (a .args .req .presented .password) i 0)
 given-fits a i = elem-fits-field w32 w32 (a .args .req .presented .password) _ i
-    (a .good .1 .1 .1 .1 .1 .1 .0 .1 .1 .1 .1 .0 .1 .1 .1 .0 .1 .1) tt
+    (a .good .1 .1 .1 .1 .1 .1 .0 .1 .1 .1 .0 .1 .1 .1 .0 .1 .1) tt
 
 drawn-fits : (a : tie.Start) (i : ℕ) → Fits w32 (getD (a .args .req .drawn) i 0)
 drawn-fits a i = elem-fits-field w32 w32 (a .args .req .drawn) _ i
-    (a .good .1 .1 .1 .1 .1 .1 .0 .1 .1 .1 .1 .1 .1 .1 .1 .1 .0 .1 .1) tt
+    (a .good .1 .1 .1 .1 .1 .1 .0 .1 .1 .1 .1 .1 .0 .1 .1) tt
 
 lock-fits : (a : tie.Start) (i : ℕ) → Fits w32 (getD (a .args .req .lock) i 0)
 lock-fits a i = elem-fits-field w32 w32 (a .args .req .lock) _ i
-    (a .good .1 .1 .1 .1 .1 .1 .0 .1 .1 .1 .1 .1 .1 .1 .1 .1 .1 .1 .1 .0 .1 .1) tt
+    (a .good .1 .1 .1 .1 .1 .1 .0 .1 .1 .1 .1 .1 .1 .1 .0 .1 .1) tt
 
 words : (a : tie.Start) → Words (call a)
 unfolding callOf
@@ -53,9 +53,9 @@ words a = record {
   presented2 = omega (arith, given-fits a 1);
   drawn1 = omega (arith, drawn-fits a 0);
   drawn2 = omega (arith, drawn-fits a 1);
-  start = omega (arith, a .good .1 .1 .1 .1 .1 .1 .0 .1 .1 .1 .1 .1 .1 .1 .1 .1 .1 .0 .1 .1 .0);
-  end = omega (arith, a .good .1 .1 .1 .1 .1 .1 .0 .1 .1 .1 .1 .1 .1 .1 .1 .1 .1 .0 .1 .1 .1 .0);
-  sum = omega (arith, a .good .1 .1 .1 .1 .1 .1 .0 .1 .1 .1 .1 .1 .1 .1 .1 .1 .1 .1 .0);
+  start = omega (arith, a .good .1 .1 .1 .1 .1 .1 .0 .1 .1 .1 .1 .1 .1 .0 .1 .1 .0);
+  end = omega (arith, a .good .1 .1 .1 .1 .1 .1 .0 .1 .1 .1 .1 .1 .1 .0 .1 .1 .1 .0);
+  sum = omega (arith, a .good .1 .1 .1 .1 .1 .1 .0 .1 .1 .1 .1 .1 .1 .1 .1 .1 .1 .1 .1 .0);
   lock1 = omega (arith, lock-fits a 0);
   lock2 = omega (arith, lock-fits a 1);
 }
