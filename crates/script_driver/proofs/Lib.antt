@@ -2,3 +2,5 @@
 pub mod Cutting
 -- every line has numbers
 pub mod Having
+-- how far a turn comes
+pub mod Going

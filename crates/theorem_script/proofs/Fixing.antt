@@ -1,7 +1,7 @@
 -- A turn, and the end of the input, are functions of what comes in, where what the lines are played on is exact.
-use Prim.Native.Nat.{ℕ, suc, _+_, _-_, _≤_, _<_}
+use Prim.Native.Nat.{ℕ, suc, _+_, _-_, _<_}
 use mathlib.Core.Path.{_≡_, refl, sym, ap, _∙_, subst}
-use mathlib.Core.List.{List, [], _∷_, _++_}
+use mathlib.Core.List.{List, [], _++_}
 use native.Mathlib.Omega.{arith}
 use lib.ListN.{length, length-append}
 use Rattle.script_text.proofs.Sayings.{means-same}
@@ -10,13 +10,6 @@ use Rattle.script_driver.specs.Turns.{playing, At, Goes, good, bad, unplayed, l
 use Rattle.script_driver.specs.Turns.{Closes, absent, refused, totals, Feeds, all, full, held, ended, Ends, none, last}
 
 -- ---- how far a turn comes
-
--- where there is room, a byte at least is taken, so turns that have room come to the end of any input
-pub feeds-some : {M : Machine} {room n b : ℕ} {g g′ : At M} {l l′ window out : List ℕ} → Feeds M room g l (b ∷ window) n out g′ l′
-    → ANSWER ≤ room → 1 ≤ n
-feeds-some (full h) room = omega arith
-feeds-some (held h ne f) room = omega arith
-feeds-some (ended h d f) room = omega arith
 
 -- it stops early for lack of room alone
 pub feeds-stop : {M : Machine} {room n : ℕ} {g g′ : At M} {l l′ window out : List ℕ} → Feeds M room g l window n out g′ l′

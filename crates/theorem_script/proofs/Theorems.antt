@@ -1,9 +1,11 @@
 -- The proofs of specs/Theorems.antt, from the other files.
+use native.Mathlib.Omega.{arith}
 use Rattle.script_text.specs.Lines.{linesOf}
 use Rattle.script_answers.proofs.Outputs.{writes-same}
 use Rattle.theorem_script.proofs.Running.{script-writes}
-use Rattle.theorem_script.proofs.Fixing.{feeds-some, feeds-stop, ends-same, feeds-same}
+use Rattle.theorem_script.proofs.Fixing.{feeds-stop, ends-same, feeds-same}
 use Rattle.theorem_script.proofs.Following.{writes-follow}
+use Rattle.script_driver.proofs.Going.{feeds-some}
 use Rattle.theorem_script.specs.Theorems.{ScriptWrites, ProgramWrites, EveryScript, OneText, AnySlots, ScriptRuns}
 use Rattle.theorem_script.specs.Theorems.{TurnExact, EndExact, TurnGoes}
 use Rattle.theorem_script.proofs.Standing.{stores-follow, stores-exact}
@@ -48,4 +50,4 @@ end-exact g l out out′ a b = ends-same stores-exact a b
 
 pub turn-goes : TurnGoes
 unfolding TurnGoes
-turn-goes M room n b g h l i window out f = (feeds-some f, feeds-stop f)
+turn-goes M room n b g h l i window out f = (feeds-some f (omega arith), feeds-stop f)
