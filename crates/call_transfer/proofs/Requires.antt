@@ -6,7 +6,7 @@ use mathlib.Core.Logic.{_≢_}
 use mathlib.Core.List.{List}
 use native.Mathlib.Omega.{arith}
 use lib.ListN.{length}
-use Rattle.rules.specs.Store.{Object, Cap, State, masterOf}
+use Rattle.rules.specs.Store.{Object, Cap, State, rootOf}
 use Rattle.rules.specs.Valid.{Lives, Formed}
 use Rattle.rules.proofs.Forest.{master-in, master-unique}
 use Rattle.layout.specs.Rows as Rows
@@ -27,12 +27,12 @@ end-fits s G k h =
     let C = G .caps in
     let m = G .master (s .cap k .object) (C .live k h .owned) in
     let lives : Lives (s .cap) (m .0) = λ z. h (sym (m .1 .of) ∙ z) in
-    let same : masterOf s k ≡ m .0 = master-unique s C k (m .0) h lives (m .1 .parent) (sym (m .1 .of)) in
-    let end : s .cap (masterOf s k) .window .end ≡ s .cap (m .0) .window .end = ap (λ i. s .cap i .window .end) same in
+    let same : rootOf s k ≡ m .0 = master-unique s C k (m .0) h lives (m .1 .parent) (sym (m .1 .of)) in
+    let end : s .cap (rootOf s k) .window .end ≡ s .cap (m .0) .window .end = ap (λ i. s .cap i .window .end) same in
     omega (arith, master-in s C k h .window .end, end, m .1 .end)
 
 module _ {b l w : List ℕ} {k : ℕ} (f : Plain b l w) (h : Held l k) where
-  end-here : Rows.masterOf l (ownerOf l k) ≢ 0 → endOf w k ≤ sizeOf l (ownerOf l k)
+  end-here : Rows.rootOf l (ownerOf l k) ≢ 0 → endOf w k ≤ sizeOf l (ownerOf l k)
   end-here alive =
       let s : State = view b l w in
       let end : s .cap k .window .end ≡ endOf w k = ap (λ (x : Cap). x .window .end) (cap-here b l w k (h .live)) in

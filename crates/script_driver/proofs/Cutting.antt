@@ -2,6 +2,7 @@
 use Prim.Native.Nat.{ℕ, zero, suc, _≤_, _<_}
 use mathlib.Core.Path.{_≡_, refl, sym, ap, _∙_, subst}
 use mathlib.Core.Logic.{_≢_}
+use mathlib.Core.Bool.{true, false}
 use mathlib.Core.List.{List, [], _∷_, _++_, append-nil}
 use native.Mathlib.Omega.{arith}
 use lib.Dec.{eqb, leb}
@@ -9,9 +10,9 @@ use lib.ListN.{length, take, drop, length-take}
 use lib.Seq.{take-all, length-take-le}
 use borrow.Author.Tests.{ne-eqb, leb-true, leb-false}
 use Rattle.rules.proofs.Tests.{by-bool, by-eq, pick-yes, pick-not}
-use Rattle.script_text.specs.Lines.{joined, linesOf}
+use Rattle.script_text.specs.Lines.{longest, joined, linesOf}
 use Rattle.script_text.specs.Scan.{Means, good, bad}
-use Rattle.script_driver.specs.Turns.{cut}
+use Rattle.script_driver.specs.Turns.{HELD, cut}
 
 -- ---- no byte 10
 
@@ -56,46 +57,46 @@ take-more (suc n) (x ∷ p) q = ap (λ (l : List ℕ). x ∷ l) (take-more n p q
 
 pub cut-more : (p q : List ℕ) → cut (cut p ++ q) ≡ cut (p ++ q)
 unfolding cut
-cut-more p q = take-more 2049 p q
+cut-more p q = take-more HELD p q
 
 pub cut-none : cut [] ≡ []
 unfolding cut
 cut-none = refl
 
-pub cut-length : (p : List ℕ) → length (cut p) ≤ 2049
+pub cut-length : (p : List ℕ) → length (cut p) ≤ HELD
 unfolding cut
-cut-length p = omega (arith, length-take 2049 p)
+cut-length p = omega (arith, length-take HELD p)
 
-short-is : (p : List ℕ) → length p ≤ 2048 → cut p ≡ p
+short-is : (p : List ℕ) → length p ≤ longest → cut p ≡ p
 unfolding cut
-short-is p h = take-all 2049 p (omega arith)
+short-is p h = take-all HELD p (omega arith)
 
-long-is : (p : List ℕ) → 2048 < length p → length (cut p) ≡ 2049
+long-is : (p : List ℕ) → longest < length p → length (cut p) ≡ HELD
 unfolding cut
-long-is p h = length-take-le 2049 p (omega arith)
+long-is p h = length-take-le HELD p (omega arith)
 
-long-means : (p q ns : List ℕ) → 2048 < length p → length q ≡ 2049 → Means q ns → Means p ns
+long-means : (p q ns : List ℕ) → longest < length p → length q ≡ HELD → Means q ns → Means p ns
 long-means p q ns h e (good short says) = absurd (omega arith)
 long-means p q ns h e (bad none) = bad (λ short. absurd (omega arith))
 
 -- the line has the numbers that what is held of it has
 pub cut-means : (p ns : List ℕ) → Means (cut p) ns → Means p ns
-cut-means p ns h = by-bool (leb (length p) 2048)
-    (λ e. subst (λ (l : List ℕ). Means l ns) (short-is p (leb-true (length p) 2048 e)) h)
+cut-means p ns h = by-bool (leb (length p) longest)
+    (λ e. subst (λ (l : List ℕ). Means l ns) (short-is p (leb-true (length p) longest e)) h)
     (λ e.
-    let long : 2048 < length p = leb-false (length p) 2048 e in
+    let long : longest < length p = leb-false (length p) longest e in
     long-means p (cut p) ns long (long-is p long) h)
 
-short-means : (p q ns : List ℕ) → 2048 < length q → length p ≡ 2049 → Means q ns → Means p ns
+short-means : (p q ns : List ℕ) → longest < length q → length p ≡ HELD → Means q ns → Means p ns
 short-means p q ns h e (good short says) = absurd (omega arith)
 short-means p q ns h e (bad none) = bad (λ short. absurd (omega arith))
 
 -- and the other way round, so that a line that lies whole in a window is played where it lies
 pub means-cut : (p ns : List ℕ) → Means p ns → Means (cut p) ns
-means-cut p ns h = by-bool (leb (length p) 2048)
-    (λ e. subst (λ (l : List ℕ). Means l ns) (sym (short-is p (leb-true (length p) 2048 e))) h)
+means-cut p ns h = by-bool (leb (length p) longest)
+    (λ e. subst (λ (l : List ℕ). Means l ns) (sym (short-is p (leb-true (length p) longest e))) h)
     (λ e.
-    let long : 2048 < length p = leb-false (length p) 2048 e in
+    let long : longest < length p = leb-false (length p) longest e in
     short-means (cut p) p ns long (long-is p long) h)
 
 pub cut-twice : (p : List ℕ) → cut p ≡ cut (cut p)

@@ -1,13 +1,18 @@
 -- What the code promises: a turn and the end of the input on three slices, a buffer for what is held, and room for output.
--- `Run` and `Fed` stand for the code's structs of these fields.
+-- `Run` and `Fed` stand for the code's structs of these fields; what is left in the working room that is lent is open.
 use Prim.Native.Nat.{ℕ, zero, suc, _+_, _-_, _≤_}
 use mathlib.Core.Path.{_≡_}
 use mathlib.Core.Bool.{Bool, true, false}
 use mathlib.Core.List.{List, [], _++_}
 use lib.ListN.{length, take, drop}
 use Rattle.script_text.specs.Pasted.{Wrote}
-use Rattle.script_driver.specs.Turns.{opening, closed, playing, At, Feeds, Ends}
+use Rattle.script_answers.specs.Room.{TOTALS}
+use Rattle.script_driver.specs.Turns.{Stage, opening, closed, playing, At, HELD, ANSWER, Feeds, Ends}
 use Rattle.script_driver.specs.Stores.{Store, Formed, stores}
+
+-- line numbers have 64 bits
+abbrev pub LAST : ℕ
+LAST = 18446744073709551615
 
 -- between two turns
 pub record Run : Type 0 where
@@ -42,16 +47,16 @@ heldIn r held = take (r .count) held
 -- between two turns. Before line one the slices are any well-formed store
 pub record Stands (s : Store) (held : List ℕ) (r : Run) : Type 0 where
   pub formed : Formed s
-  pub size : length held ≡ 2049
-  pub few : r .count ≤ 2049
+  pub size : length held ≡ HELD
+  pub few : r .count ≤ HELD
 
 -- ---- a turn
 
--- line numbers have 64 bits: they grow by no more than the bytes taken
+-- line numbers grow by no more than the bytes taken
 pub record FeedAsks (s : Store) (held : List ℕ) (r : Run) (window out : List ℕ) (at : ℕ) : Type 0 where
   pub stands : Stands s held r
   pub place : at ≤ length out
-  pub counted : r .number + length window ≤ 18446744073709551615
+  pub counted : r .number + length window ≤ LAST
 
 -- s, held, out at entry, s′, held′, out′ at exit
 pub record Feeding (s : Store) (held : List ℕ) (r : Run) (window out : List ℕ) (at : ℕ)
@@ -69,7 +74,8 @@ pub record Feeding (s : Store) (held : List ℕ) (r : Run) (window out : List �
 -- room for an answer and for the totals
 pub record FinishAsks (s : Store) (held : List ℕ) (r : Run) (out : List ℕ) (at : ℕ) : Type 0 where
   pub stands : Stands s held r
-  pub room : at + 2916 ≤ length out
+  pub counted : r .number + 1 ≤ LAST
+  pub room : at + ANSWER + TOTALS ≤ length out
 
 pub record Finishing (s : Store) (held : List ℕ) (r : Run) (out : List ℕ) (at : ℕ) (s′ : Store) (out′ : List ℕ) (x : ℕ) : Type 0 where
   pub text : List ℕ

@@ -6,3 +6,5 @@ pub mod Turns
 pub mod Stores
 -- what the code promises, and a program that reads, feeds and writes
 pub mod Contract
+-- what its parts promise
+pub mod Parts

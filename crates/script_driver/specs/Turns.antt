@@ -8,6 +8,7 @@ use lib.ListN.{length, take, drop}
 use Rattle.script_text.specs.Numeral.{lineOf}
 use Rattle.script_text.specs.Lines.{linesOf}
 use Rattle.script_text.specs.Scan.{Means}
+use Rattle.script_answers.specs.Room as Room
 use Rattle.script_driver.specs.Machine.{Machine}
 
 -- ---- where a script stands
@@ -59,14 +60,16 @@ WritesOn M script text = Lines M opening (linesOf script) text
 
 -- ---- byte by byte
 
--- of a line that has not ended, 2,049 bytes at most are held: they are as much too long as any more
-unfoldable pub cut : List ℕ → List ℕ
-cut l = take 2049 l
+-- of a line that has not ended so many bytes are held at most: one more than a line may have, and as much too long as any more
+abbrev pub HELD : ℕ
+HELD = 2049
 
--- room for any answer: 260 numbers of ten digits with a byte after each, and ten more places for the line's own number,
--- which has 64 bits
+unfoldable pub cut : List ℕ → List ℕ
+cut l = take HELD l
+
+-- room for any answer
 abbrev pub ANSWER : ℕ
-ANSWER = 2870
+ANSWER = Room.ANSWER
 
 -- from stage g, where the bytes l are held, with this room for output and this window of input: so many bytes of the window are taken,
 -- these are written, and the script stands at g′ and holds l′. As long as there is room for an answer, bytes are taken.
