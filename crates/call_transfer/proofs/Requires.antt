@@ -32,7 +32,7 @@ end-fits s G k h =
     omega (arith, master-in s C k h .window .end, end, m .1 .end)
 
 module _ {b l w : List ℕ} {k : ℕ} (f : Plain b l w) (h : Held l k) where
-  end-here : Rows.rootOf l (ownerOf l k) ≢ 0 → endOf w k ≤ sizeOf l (ownerOf l k)
+  end-here : Rows.masterOf l (ownerOf l k) ≢ 0 → endOf w k ≤ sizeOf l (ownerOf l k)
   end-here alive =
       let s : State = view b l w in
       let end : s .cap k .window .end ≡ endOf w k = ap (λ (x : Cap). x .window .end) (cap-here b l w k (h .live)) in
