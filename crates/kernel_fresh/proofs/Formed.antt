@@ -1,5 +1,5 @@
 -- The fresh slices are well formed.
-use Prim.Native.Nat.{ℕ, _+_, _≤_, _<_}
+use Prim.Native.Nat.{ℕ, _+_, _-_, _≤_, _<_}
 use mathlib.Core.Path.{_≡_, refl, _∙_}
 use mathlib.Core.Logic.{_≢_}
 use mathlib.Core.List.{[], _∷_}
@@ -7,6 +7,7 @@ use native.Mathlib.Omega.{arith}
 use lib.Dec.{eqb, lit<, lit≤}
 use borrow.Author.Tests.{eq-eqb, ne-eqb}
 use lib.ListN.{length-set}
+use Rattle.rules.specs.Limit as Limit
 use Rattle.rules.specs.Slots.{at, one, sumOver}
 use Rattle.rules.specs.Store.{Password, blocks}
 use Rattle.rules.specs.Demand.{FreshWords}
@@ -16,11 +17,11 @@ use Rattle.layout.specs.Shape.{BlockChains, Shape}
 use Rattle.layout.specs.WellFormed.{Sized, Cells, WellFormed}
 use Rattle.kernel_fresh.specs.Slices.{freshBytes, freshLinks, freeLinks, firstLinks, freshWords}
 use Rattle.rules.proofs.Tests.{by-eq}
-use Rattle.rules.proofs.Slots.{at-else, at-by, sum-zero}
+use Rattle.rules.proofs.Slots.{at-here, at-else, at-by, sum-zero}
 use Rattle.kernel_fresh.proofs.Slots.{sum-only}
 use Rattle.kernel_fresh.proofs.Cells.{length-zeros}
-use Rattle.kernel_fresh.proofs.Chains.{length-free, FreeFrom}
-use Rattle.kernel_fresh.proofs.Rows.{none, only}
+use Rattle.kernel_fresh.proofs.Chains.{length-free, FreeTo}
+use Rattle.kernel_fresh.proofs.Rows.{none, only, master, owner}
 use Rattle.kernel_fresh.proofs.Rows.{flag-row, suspended-row, waiting-row, terminated-row, count-row}
 use Rattle.kernel_fresh.proofs.Rows.{master-row, size-row, first-block-row}
 use Rattle.kernel_fresh.proofs.Rows.{owner-row, parent-row, first-child-row, prev-cap-row}
@@ -40,7 +41,7 @@ sized supply p = record {
 
 cells : Cells freshBytes freshLinks
 cells = record {
-  flag = λ o h. rw flag-row (at-by (λ i x. x ≤ 1) none 1 1 (lit≤ tt) (λ i n. lit≤ tt) o);
+  flag = λ o h. rw flag-row (at-by (λ i x. x ≤ 1) none Limit.objects 1 (lit≤ tt) (λ i n. lit≤ tt) o);
   suspended = λ o h. rw suspended-row (lit≤ tt);
   waiting = λ o h. rw waiting-row (lit≤ tt);
   terminated = λ o h. rw terminated-row (lit≤ tt);
@@ -48,40 +49,50 @@ cells = record {
   length = λ o m h b. let no-message : m < 0 = rw count-row at b in absurd (omega arith);
 }
 
--- ---- record 1 in use, and the records from 2 on free
+-- ---- the last record in use, and those before it free
 
-module _ {n : ℕ} {next : ℕ → ℕ} (F : FreeFrom n 2 next) where
-  once : (k : ℕ) → 1 ≤ k → k ≤ n → one (eqb k 1) + times k (F .free) ≡ 1
+module _ {n last : ℕ} (e : last + 1 ≡ n) {next : ℕ → ℕ} (F : FreeTo n last next) where
+  once : (k : ℕ) → 1 ≤ k → k ≤ n → one (eqb k n) + times k (F .free) ≡ 1
   unfolding one
-  once k low high = by-eq k 1
-      (λ e. rw (eq-eqb k 1 e, F .none k (omega arith), one))
-      (λ m. rw (ne-eqb k 1 m, F .has k (omega arith) high, one))
+  once k low high = by-eq k n
+      (λ q. rw (eq-eqb k n q, F .none k (omega arith), one))
+      (λ m. rw (ne-eqb k n m, F .has k low (omega arith), one))
 
-  not-one : (k : ℕ) → 1 ≤ times k (F .free) → only 1 k ≡ 0
-  not-one k h = by-eq k 1
-      (λ e. absurd (omega (arith, F .none k (omega arith))))
-      (λ m. at-else none 1 1 k m)
+  not-last : (v k : ℕ) → 1 ≤ times k (F .free) → only n v k ≡ 0
+  not-last v k h = by-eq k n
+      (λ q. absurd (omega (arith, F .none k (omega arith))))
+      (λ m. at-else none n v k m)
 
-objects-of : {next : ℕ → ℕ} → FreeFrom 64 2 next → ObjectChains (only 1) next 1 64
-unfolding Chain times one at
+is-last : (n v k : ℕ) → 1 ≤ one (eqb k n) → only n v k ≡ v
+unfolding one
+is-last n v k h = by-eq k n
+    (λ q. rw q (at-here none n v))
+    (λ m. let none-there : 1 ≤ 0 = rw (ne-eqb k n m, one) at h in absurd (omega arith))
+
+objects-of : {next : ℕ → ℕ} → FreeTo Limit.objects (Limit.objects - 1) next
+    → ObjectChains master next Limit.objects (Limit.objects - 1)
+unfolding Chain times one
 objects-of {next} F = record {
-  live = 1 ∷ [];
+  live = Limit.objects ∷ [];
   free = F .free;
-  live-chain = (refl, lit≤ tt, lit≤ tt, F .before 1 (lit< tt));
+  live-chain = (refl, lit≤ tt, lit≤ tt, F .after Limit.objects (lit< tt));
   free-chain = F .free-chain;
-  once = λ o a b. omega (arith, once F o a b);
-  alive = λ o h z. omega arith;
-  dead = not-one F;
+  once = λ o a b. omega (arith, once refl F o a b);
+  alive = λ o h z. omega (arith, is-last Limit.objects Limit.caps o (omega arith));
+  dead = not-last refl F Limit.caps;
 }
 
--- capability 1 alone is the tree of object 1
-trees : ℕ → Forest
-trees = at (λ o. nil) 1 (node 1 nil nil)
+-- the last capability alone is the tree of the last object
+first-tree : Forest
+first-tree = node Limit.caps nil nil
 
-module _ {next : ℕ → ℕ} (F : FreeFrom 512 2 next) where
-  first-tree : HasTree (only 1) (only 1) none none next none 1 (node 1 nil nil)
-  unfolding Sound at
-  first-tree = record {
+trees : ℕ → Forest
+trees = at (λ o. nil) Limit.objects first-tree
+
+module _ {next : ℕ → ℕ} (F : FreeTo Limit.caps (Limit.caps - 1) next) where
+  has-first : HasTree master owner none none next none Limit.objects first-tree
+  unfolding Sound at first-tree
+  has-first = record {
     live = λ h. (
       nil,
       refl,
@@ -89,43 +100,43 @@ module _ {next : ℕ → ℕ} (F : FreeFrom 512 2 next) where
         refl,
         record { low = lit≤ tt; high = lit≤ tt; owner-is = refl; parent-is = refl; prev-is = refl },
         refl,
-        F .before 1 (lit< tt),
+        F .after Limit.caps (lit< tt),
       ),
     );
     dead = λ z. absurd (omega arith);
   }
 
-  no-tree : (o : ℕ) → o ≢ 1 → HasTree (only 1) (only 1) none none next none o nil
-  no-tree o n = record { live = λ h. absurd (h (at-else none 1 1 o n)); dead = λ z. refl }
+  no-tree : (o : ℕ) → o ≢ Limit.objects → HasTree master owner none none next none o nil
+  no-tree o n = record { live = λ h. absurd (h (at-else none Limit.objects Limit.caps o n)); dead = λ z. refl }
 
-  in-trees : (k : ℕ) → sumOver 64 (λ o. count k (trees o)) ≡ one (eqb k 1)
-  unfolding trees count at
+  in-trees : (k : ℕ) → sumOver Limit.objects (λ o. count k (trees o)) ≡ one (eqb k Limit.caps)
+  unfolding trees first-tree count at
   in-trees k =
-      sum-only 64 1 (λ o. count k (trees o)) (lit≤ tt) (lit≤ tt)
-      (λ o n. rw (at-else (λ j. nil) 1 (node 1 nil nil) o n))
+      sum-only Limit.objects Limit.objects (λ o. count k (trees o)) (lit≤ tt) (lit≤ tt)
+      (λ o n. rw (at-else (λ j. nil) Limit.objects first-tree o n))
       ∙ omega arith
 
-  caps-of : CapTrees (only 1) (only 1) none none next none 512
+  caps-of : CapTrees master owner none none next none (Limit.caps - 1)
   unfolding trees
   caps-of = record {
     tree = trees;
     free = F .free;
-    trees = λ o a b. at-by (HasTree (only 1) (only 1) none none next none) (λ j. nil) 1 (node 1 nil nil)
-        first-tree no-tree o;
+    trees = λ o a b. at-by (HasTree master owner none none next none) (λ j. nil) Limit.objects first-tree
+        has-first no-tree o;
     free-chain = F .free-chain;
-    free-owner = not-one F;
-    once = λ k a b. omega (arith, once F k a b, in-trees k);
+    free-owner = not-last refl F Limit.objects;
+    once = λ k a b. omega (arith, once refl F k a b, in-trees k);
   }
 
 -- no block is in use
-blocks-of : {next : ℕ → ℕ} → FreeFrom 512 1 next → BlockChains (only 1) none none next 512
+blocks-of : {next : ℕ → ℕ} → FreeTo Limit.blocks Limit.blocks next → BlockChains master none none next Limit.blocks
 unfolding Chain times blocks
 blocks-of {next} F = record {
   chain = λ o. [];
   free = F .free;
   chains = λ o a b. record { live = λ h. (refl, refl); dead = λ z. refl };
   free-chain = F .free-chain;
-  once = λ k a b. omega (arith, F .has k a b, sum-zero 64 none (λ j p q. refl));
+  once = λ k a b. omega (arith, F .has k a b, sum-zero Limit.objects none (λ j p q. refl));
 }
 
 shape : Shape freshLinks

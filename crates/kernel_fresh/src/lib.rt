@@ -20,6 +20,10 @@ use layout::P2;
 use layout::RIGHTS;
 use layout::SERIAL;
 use layout::WORDS;
+use values::limit::MAX_BLOCKS;
+use values::limit::MAX_CAPS;
+use values::limit::MAX_OBJECTS;
+use values::limit::MAX_RIGHTS;
 ghost use mathlib.Core.Path.{_≡_};
 ghost use lib.ListN.{length};
 ghost use Rattle.layout.specs.Layout as Layout;
@@ -27,35 +31,44 @@ ghost use Rattle.values.specs.Words.{passwordOf};
 ghost use Rattle.kernel_fresh.specs.Slices.{freshBytes, freeLinks, firstLinks, freshLinks, freshWords};
 ghost use Rattle.kernel_fresh.specs.Fresh.{Fresh};
 
-// Object 1 is a process, its marks clear, its box empty.
+// The process has the last slot of an object, its master the last slot of a capability: a look-up starts there.
+const LAST_OBJECT: u16 = MAX_OBJECTS as u16;
+
+const LAST_CAP: u16 = MAX_CAPS as u16;
+
+const LAST_BLOCK: u16 = MAX_BLOCKS as u16;
+
+const ALL_RIGHTS: u16 = MAX_RIGHTS as u16;
+
+// The last object is a process, its marks clear, its box empty.
 fn fresh_bytes(bytes: &mut [u8])
     requires { ⌜ length (now bytes) ≡ Layout.BYTES ⌝ }
     ensures { λ _. ⌜ now (bytes .exit) ≡ freshBytes ⌝ }
 {
     fill::zero_bytes(bytes);
-    bytes[FLAG + 1] = 1;
+    bytes[FLAG + MAX_OBJECTS] = 1;
 }
 
-// Objects and capabilities from 2 on are free, and all blocks.
+// The objects and capabilities before the last are free, and all blocks.
 fn free_links(links: &mut [u16])
     requires { ⌜ length (now links) ≡ Layout.LINKS ⌝ }
     ensures { λ _. ⌜ now (links .exit) ≡ freeLinks (now (links .entry)) ⌝ }
 {
-    chain::free_chain(links, FREE_OBJECTS, NEXT_OBJECT, 2, 64);
-    chain::free_chain(links, FREE_CAPS, NEXT_CAP, 2, 512);
-    chain::free_chain(links, FREE_BLOCKS, NEXT_BLOCK, 1, 512);
+    chain::free_chain(links, FREE_OBJECTS, NEXT_OBJECT, LAST_OBJECT - 1);
+    chain::free_chain(links, FREE_CAPS, NEXT_CAP, LAST_CAP - 1);
+    chain::free_chain(links, FREE_BLOCKS, NEXT_BLOCK, LAST_BLOCK);
 }
 
-// Object 1 is the only one in the chain of objects, and capability 1, with all rights, is its master.
+// The last object is the only one in the chain of objects, and the last capability, with all rights, is its master.
 fn first_links(links: &mut [u16])
     requires { ⌜ length (now links) ≡ Layout.LINKS ⌝ }
     ensures { λ _. ⌜ now (links .exit) ≡ firstLinks (now (links .entry)) ⌝ }
 {
-    links[OBJECTS] = 1;
-    links[MASTER + 1] = 1;
-    links[SERIAL + 1] = 1;
-    links[OWNER + 1] = 1;
-    links[RIGHTS + 1] = 8191;
+    links[OBJECTS] = LAST_OBJECT;
+    links[MASTER + MAX_OBJECTS] = LAST_CAP;
+    links[SERIAL + MAX_OBJECTS] = 1;
+    links[OWNER + MAX_CAPS] = LAST_OBJECT;
+    links[RIGHTS + MAX_CAPS] = ALL_RIGHTS;
 }
 
 fn fresh_links(links: &mut [u16])
@@ -67,15 +80,15 @@ fn fresh_links(links: &mut [u16])
     first_links(links);
 }
 
-// The supply is the cash of object 1, the password that of capability 1.
+// The supply is the cash of the process, the password that of its master.
 fn fresh_words(supply: u32, password: [u32; 2], words: &mut [u32])
     requires { ⌜ length (now words) ≡ Layout.WORDS ⌝ }
     ensures { λ _. ⌜ now (words .exit) ≡ freshWords supply (passwordOf password) ⌝ }
 {
     fill::zero_words(words);
-    words[CASH + 1] = supply;
-    words[P1 + 1] = password[0];
-    words[P2 + 1] = password[1];
+    words[CASH + MAX_OBJECTS] = supply;
+    words[P1 + MAX_CAPS] = password[0];
+    words[P2 + MAX_CAPS] = password[1];
 }
 
 // Makes a fresh store, and answers 0. Slices of any other length give 1 and are not written.

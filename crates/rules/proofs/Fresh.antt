@@ -6,6 +6,7 @@ use mathlib.Core.Bool.{true, false, true≢false, false≢true}
 use native.Mathlib.Omega.{arith}
 use lib.Dec.{lit<, lit≤}
 use borrow.Author.Tests.{eqb-true}
+use Rattle.rules.specs.Limit as Limit
 use Rattle.rules.specs.Slots.{at, sumOver}
 use Rattle.rules.specs.Store.{Password, Object, Cap, State, noWindow, noLockword, noObject, noCap, blocks}
 use Rattle.rules.specs.Store.{sumsIn, allCash, allBoxes, moneyIn, fresh}
@@ -40,26 +41,32 @@ module _ (supply : ℕ) (p : Password) (W : FreshWords supply p) where
   first-object = record { live = true; name = record { volume = 0; serial = 1 }; size = 0; process = true }
 
   abbrev first-cap : Cap
-  first-cap = record { object = 1; parent = 0; password = p; window = noWindow; rights = 8191 }
+  first-cap = record {
+    object = Limit.objects;
+    parent = 0;
+    password = p;
+    window = noWindow;
+    rights = Limit.rights;
+  }
 
   -- it has one object and one capability
-  only-object : (o : ℕ) → fresh supply p .object o .live ≡ true → o ≡ 1
+  only-object : (o : ℕ) → fresh supply p .object o .live ≡ true → o ≡ Limit.objects
   unfolding fresh noObject
-  only-object o e = by-eq o 1 (λ q. q)
-      (λ n. absurd (false≢true (sym (ap (λ (x : Object). x .live) (at-else (λ o. noObject) 1 first-object o n)) ∙ e)))
+  only-object o e = by-eq o Limit.objects (λ q. q)
+      (λ n. absurd (false≢true (sym (ap (λ (x : Object). x .live) (at-else (λ o. noObject) Limit.objects first-object o n)) ∙ e)))
 
-  only-cap : (i : ℕ) → Lives (fresh supply p .cap) i → i ≡ 1
+  only-cap : (i : ℕ) → Lives (fresh supply p .cap) i → i ≡ Limit.caps
   unfolding fresh noCap
-  only-cap i h = by-eq i 1 (λ q. q)
-      (λ n. absurd (h (ap (λ (x : Cap). x .object) (at-else (λ i. noCap) 1 first-cap i n))))
+  only-cap i h = by-eq i Limit.caps (λ q. q)
+      (λ n. absurd (h (ap (λ (x : Cap). x .object) (at-else (λ i. noCap) Limit.caps first-cap i n))))
 
   objects : Objects (fresh supply p .object)
   unfolding fresh noObject blocks sumOver at
   objects = record {
-    live = at-by (λ o (x : Object). x .live ≡ true → LiveObject o x) (λ o. noObject) 1 first-object
-        (λ e. record { some = omega arith; low = lit≤ tt; volume = omega arith; serial = lit≤ tt; size = omega arith })
+    live = at-by (λ o (x : Object). x .live ≡ true → LiveObject o x) (λ o. noObject) Limit.objects first-object
+        (λ e. record { some = lit≤ tt; low = lit≤ tt; volume = omega arith; serial = lit≤ tt; size = omega arith })
         (λ j n e. absurd (false≢true e));
-    free = at-by (λ o (x : Object). x .live ≡ false → x ≡ noObject) (λ o. noObject) 1 first-object
+    free = at-by (λ o (x : Object). x .live ≡ false → x ≡ noObject) (λ o. noObject) Limit.objects first-object
         (λ e. absurd (true≢false e)) (λ o n e. refl);
     names = λ o q e f n. only-object o e ∙ sym (only-object q f);
     room = lit≤ tt;
@@ -69,9 +76,9 @@ module _ (supply : ℕ) (p : Password) (W : FreshWords supply p) where
   unfolding fresh noCap noWindow at
   caps =
       let alive : first-cap .object ≢ 0 = λ z. omega arith in
-      caps-add (λ i. noCap) 1 first-cap refl alive (s .object) (no-caps (s .object))
-      (joins-first (λ i. noCap) 1 first-cap refl alive (s .object) (record {
-        some = omega arith;
+      caps-add (λ i. noCap) Limit.caps first-cap refl alive (s .object) (no-caps (s .object))
+      (joins-first (λ i. noCap) Limit.caps first-cap refl alive (s .object) (record {
+        some = lit≤ tt;
         low = lit≤ tt;
         p1 = W .p1;
         p2 = W .p2;
@@ -83,21 +90,21 @@ module _ (supply : ℕ) (p : Password) (W : FreshWords supply p) where
   sound : Sound (fresh supply p)
   unfolding fresh noObject noLockword
   sound = parts objects caps
-      (at-by (λ o (x : Object). 0 ≡ x .size) (λ o. noObject) 1 first-object refl (λ o n. refl))
+      (at-by (λ o (x : Object). 0 ≡ x .size) (λ o. noObject) Limit.objects first-object refl (λ o n. refl))
       (record { fits = λ o. record { first = lit< tt; second = omega arith }; only = λ o e. refl })
-      (at-both (λ o (x : Object) n. x .process ≡ false → n ≡ 0) (λ o. noObject) (λ o. 0) 1 first-object supply
+      (at-both (λ o (x : Object) n. x .process ≡ false → n ≡ 0) (λ o. noObject) (λ o. 0) Limit.objects first-object supply
       (λ e. absurd (true≢false e)) (λ o n e. refl))
       (λ o e. refl)
       (record { fits = λ o. record { room = omega arith; short = tt }; only = λ o e. refl })
       (record { fits = λ i. omega arith; only = λ i z. refl })
 
-  is-master : IsMaster 1 (fresh supply p .object 1 .size) (fresh supply p .cap 1)
+  is-master : IsMaster Limit.objects (fresh supply p .object Limit.objects .size) (fresh supply p .cap Limit.caps)
   unfolding fresh noWindow at
   is-master = record { of = refl; parent = refl; start = refl; end = refl }
 
   formed : Formed (fresh supply p)
   formed = formed-of sound (λ o e.
-      (1, subst (λ x. IsMaster x (s .object x .size) (s .cap 1)) (sym (only-object o e)) is-master))
+      (Limit.caps, subst (λ x. IsMaster x (s .object x .size) (s .cap Limit.caps)) (sym (only-object o e)) is-master))
 
   total : moneyIn (fresh supply p) ≡ supply
   unfolding fresh moneyIn allCash allBoxes sumsIn
@@ -105,46 +112,57 @@ module _ (supply : ℕ) (p : Password) (W : FreshWords supply p) where
       let zeros : (n : ℕ) → sumOver n (λ o. 0) ≡ 0 = λ n. sum-zero n (λ o. 0) (λ i a b. refl) in
       omega (
         arith,
-        sum-at 64 (λ (n : ℕ). n) (λ o. 0) 1 supply (omega arith) (lit≤ tt),
-        zeros 64,
+        sum-at Limit.objects (λ (n : ℕ). n) (λ o. 0) Limit.objects supply (lit≤ tt) (lit≤ tt),
+        zeros Limit.objects,
         masters-none s (λ i. refl),
       )
 
   pub valid-fresh : Valid (fresh supply p)
   valid-fresh = record { formed = formed; total = omega (arith, total, W .amount) }
 
-  -- ---- the ledger: line 1 is of slot 1
+  -- ---- the ledger: line 1 is of the master's slot
 
-  fits-one : Fits (fresh supply p .object) (linesOf (opening p)) (fresh supply p .cap 1) 1
+  abbrev line-of : ℕ → ℕ
+  line-of = at (λ i. 0) Limit.caps 1
+
+  line-none : line-of 0 ≡ 0
+  unfolding at
+  line-none = refl
+
+  line-one : line-of Limit.caps ≡ 1
+  unfolding at
+  line-one = refl
+
+  fits-one : Fits (fresh supply p .object) (linesOf (opening p)) (fresh supply p .cap Limit.caps) 1
   unfolding fresh opening at
   fits-one = record { some = omega arith; low = omega arith; living = refl; name = refl; password = refl }
 
-  lives-one : Lives (fresh supply p .cap) 1
+  lives-one : Lives (fresh supply p .cap) Limit.caps
   unfolding fresh at
   lives-one z = omega arith
 
-  top-one : fresh supply p .cap 1 .parent ≡ 0
+  top-one : fresh supply p .cap Limit.caps .parent ≡ 0
   unfolding fresh at
   top-one = refl
 
-  purse-one : opening p .line 1 .first + summed (opening p) (opening p .paidIn) 1
-      ≡ 0 + summed (opening p) (opening p .drawn) 1
+  purse-one : (k : ℕ) → opening p .line k .first + summed (opening p) (opening p .paidIn) k
+      ≡ 0 + summed (opening p) (opening p .drawn) k
   unfolding opening
-  purse-one = refl
+  purse-one k = refl
 
   pub link-fresh : Linking (fresh supply p) (opening p)
   unfolding fresh opening
   link-fresh = record {
-    num = λ i. i;
-    slot = λ k. k;
+    num = line-of;
+    slot = λ k. Limit.caps;
     linked = record {
-      none = refl;
-      fits = λ i h. subst (λ x. Fits (s .object) (linesOf (opening p)) (s .cap x) x) (sym (only-cap i h)) fits-one;
-      back = λ k a b e. (subst (Lives (s .cap)) (sym (eqb-true k 1 e)) lives-one, refl);
-      above = λ i h. sym (subst (λ x. s .cap x .parent ≡ 0) (sym (only-cap i h)) top-one);
+      none = line-none;
+      fits = λ i h. subst (λ x. Fits (s .object) (linesOf (opening p)) (s .cap x) (line-of x)) (sym (only-cap i h))
+          (subst (Fits (s .object) (linesOf (opening p)) (s .cap Limit.caps)) (sym line-one) fits-one);
+      back = λ k a b e. (lives-one, line-one ∙ sym (eqb-true k 1 e));
+      above = λ i h. sym (ap line-of (subst (λ x. s .cap x .parent ≡ 0) (sym (only-cap i h)) top-one) ∙ line-none);
       later = λ k a b. omega arith;
     };
-    purse = λ i h. subst (λ x. opening p .line x .first + summed (opening p) (opening p .paidIn) x
-        ≡ 0 + summed (opening p) (opening p .drawn) x) (sym (only-cap i h)) purse-one;
+    purse = λ i h. purse-one (line-of i);
     locked = λ o e. refl;
   }

@@ -1,4 +1,5 @@
 -- The example: by the theorem, and by computation.
+use Prim.Native.Nat.{_-_}
 use mathlib.Core.Path.{_≡_, refl, ap}
 use mathlib.Core.Bool.{false≢true}
 use lib.Dec.{lit≤}
@@ -53,11 +54,11 @@ not-rename : op (makes .number) ≡ renameObj → ⊥
 unfolding Taken.computes Rights.computes
 not-rename e = false≢true (ap Rights.presents e)
 
-low-free : FreeObject (fresh supply password) 2 × FreeCap (fresh supply password) 2
+low-free : FreeObject (fresh supply password) 1 × FreeCap (fresh supply password) 1
 unfolding FreeObject FreeCap Store.computes Slots.computes
 low-free = ((lit≤ tt, lit≤ tt, refl), (lit≤ tt, lit≤ tt, refl))
 
-high-free : FreeObject (fresh supply password) Limit.objects × FreeCap (fresh supply password) Limit.caps
+high-free : FreeObject (fresh supply password) (Limit.objects - 1) × FreeCap (fresh supply password) (Limit.caps - 1)
 unfolding FreeObject FreeCap Store.computes Slots.computes
 high-free = ((lit≤ tt, lit≤ tt, refl), (lit≤ tt, lit≤ tt, refl))
 

@@ -156,11 +156,11 @@ unfoldable pub moneyIn : State → ℕ
 moneyIn s = allCash s + allMasters s + allBoxes s + s .house
 
 -- ---- the fresh store: one running process, volume 0 serial 1, size 0, lockword 0 and 0, all rights, moneyword 0,
--- cash equal to the supply; the house has 0
+-- cash equal to the supply; the house has 0. The process and its master have the last slots, where a look-up starts
 unfoldable pub fresh : ℕ → Password → State
 fresh supply p = record {
   house = 0;
-  object = at (λ o. noObject) 1 (record {
+  object = at (λ o. noObject) Limit.objects (record {
     live = true;
     name = record { volume = 0; serial = 1 };
     size = 0;
@@ -168,10 +168,16 @@ fresh supply p = record {
   });
   bytes = λ o. [];
   lock = λ o. noLockword;
-  cash = at (λ o. 0) 1 supply;
+  cash = at (λ o. 0) Limit.objects supply;
   marks = λ o. noMarks;
   box = λ o. [];
-  cap = at (λ i. noCap) 1 (record { object = 1; parent = 0; password = p; window = noWindow; rights = Limit.rights });
+  cap = at (λ i. noCap) Limit.caps (record {
+    object = Limit.objects;
+    parent = 0;
+    password = p;
+    window = noWindow;
+    rights = Limit.rights;
+  });
   money = λ i. 0;
 }
 

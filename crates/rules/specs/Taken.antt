@@ -1,5 +1,5 @@
--- One make_obj on a fresh store, taken into slots 2 and 2 or into slots 64 and 512: two stores, one meaning.
-use Prim.Native.Nat.{ℕ}
+-- One make_obj on a fresh store, taken into the first slots or into the last free ones: two stores, one meaning.
+use Prim.Native.Nat.{ℕ, _-_}
 use mathlib.Core.Path.{_≡_}
 use mathlib.Core.Bool.{true, false}
 use mathlib.Core.List.{[]}
@@ -40,10 +40,10 @@ makes = record {
 }
 
 unfoldable pub low : Choice
-low = record { object = 2; cap = 2 }
+low = record { object = 1; cap = 1 }
 
 unfoldable pub high : Choice
-high = record { object = Limit.objects; cap = Limit.caps }
+high = record { object = Limit.objects - 1; cap = Limit.caps - 1 }
 
 unfoldable pub after : Choice → State
 after h = rule (fresh supply password) makes h .after
@@ -52,8 +52,8 @@ after h = rule (fresh supply password) makes h .after
 
 pub record Example : Type 0 where
   -- the slots are others
-  pub here : after low .object 2 .live ≡ true
-  pub there : after high .object 2 .live ≡ false
+  pub here : after low .object 1 .live ≡ true
+  pub there : after high .object 1 .live ≡ false
   -- and the meaning is the same
   pub same : SameMeaning (after low) (after high)
   -- it shows the process, which has paid 20, the thing and its master, and nothing of a name or p1 that is not there

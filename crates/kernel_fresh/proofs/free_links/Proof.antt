@@ -4,8 +4,14 @@ use borrow.Author.Needs.{needs}
 use Rattle.kernel_fresh.proofs.free_links.Statement.{statement}
 use Rattle.kernel_fresh.proofs.free_links.Tie as tie
 
+sub-free-chain : tie.Need-sub-free-chain
+sub-free-chain c = search needs
+
 free-chain-requires : tie.Need-free-chain-requires
 free-chain-requires c κs = search needs
+
+sub-free-chain-2 : tie.Need-sub-free-chain-2
+sub-free-chain-2 c = search needs
 
 free-chain-requires-2 : tie.Need-free-chain-requires-2
 free-chain-requires-2 c κs = search needs
@@ -26,4 +32,11 @@ returns c =
 pub free-links-spec : {M : Type 1} → statement M
 free-links-spec =
     tie.close
-    (tie.spec free-chain-requires free-chain-requires-2 free-chain-requires-3 same-length returns)
+    (tie.spec
+    sub-free-chain
+    free-chain-requires
+    sub-free-chain-2
+    free-chain-requires-2
+    free-chain-requires-3
+    same-length
+    returns)

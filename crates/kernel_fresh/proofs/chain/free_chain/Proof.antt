@@ -9,12 +9,11 @@ use Rattle.kernel_fresh.proofs.chain.free_chain.Statement.{statement}
 use Rattle.kernel_fresh.proofs.chain.free_chain.Tie as tie
 
 abbrev Inv-loop : tie.InvT-loop
-Inv-loop links₀ head off first last i₀ links i =
-    (first ≤ i) × (i ≤ last) × (length links ≡ length links₀)
-    × (chain off first (last - first) links₀ ≡ chain off first (i - first) links)
+Inv-loop links₀ head off last i₀ links i =
+    (i ≤ last) × (length links ≡ length links₀) × (chain off last links₀ ≡ chain off i links)
 
 abbrev μ-loop : tie.MeasureT-loop
-μ-loop links₀ head off first last i₀ links i = i
+μ-loop links₀ head off last i₀ links i = i
 
 mul-links : tie.Need-mul-links Inv-loop μ-loop
 mul-links c = omega arith
@@ -23,12 +22,12 @@ slice-write-links : tie.Need-slice-write-links Inv-loop μ-loop
 slice-write-links c = omega arith
 
 loop-holds : tie.Need-loop-holds Inv-loop μ-loop
-loop-holds c = (omega arith, omega arith, refl, refl)
+loop-holds c = (omega arith, refl, refl)
 
 size : (c : tie.At-loop Inv-loop μ-loop) → length (c .loop .links) ≡ length (c .before .args .links .now)
 size c =
     let a = c .before .args in
-    c .loop .inv .2 ∙ length-set (a .links .now) (a .head) (a .last)
+    c .loop .inv .1 ∙ length-set (a .links .now) (a .head) (a .last)
 
 sub-links : tie.Need-sub-links Inv-loop μ-loop
 sub-links c = omega arith
@@ -56,29 +55,19 @@ loop-again c =
     let l = c .before .loop in
     let a = c .before .before .args in (
       omega arith,
-      omega arith,
-      length-set (l .links) (a .off + l .i) (l .i - 1) ∙ l .inv .2,
-      l .inv .3 ∙ chain-turn (a .off) (a .first) (l .i) (l .links) (c .loop-test .taken),
+      length-set (l .links) (a .off + l .i) (l .i - 1) ∙ l .inv .1,
+      l .inv .2 ∙ chain-turn (a .off) (l .i) (l .links) (c .loop-test .taken),
     )
 
-add-links-2 : tie.Need-add-links-2 Inv-loop μ-loop
-add-links-2 c = omega (arith, size (c .before))
-
-mul-links-3 : tie.Need-mul-links-3 Inv-loop μ-loop
-mul-links-3 c = omega (arith, size (c .before))
-
-slice-write-links-3 : tie.Need-slice-write-links-3 Inv-loop μ-loop
-slice-write-links-3 c = omega (arith, size (c .before))
-
 same-length : tie.Need-same-length Inv-loop μ-loop
-same-length c = length-set (c .before .loop .links) _ 0 ∙ size (c .before)
+same-length c = size (c .before)
 
 returns : tie.Need-returns Inv-loop μ-loop
 unfolding freeChain
 returns c =
     let l = c .before .loop in
     let a = c .before .before .args in
-    sym (l .inv .3 ∙ chain-end (a .off) (a .first) (l .i) (l .links) (omega arith))
+    sym (l .inv .2 ∙ chain-end (a .off) (l .i) (l .links) (omega arith))
 
 pub free-chain-spec : {M : Type 1} → statement M
 free-chain-spec =
@@ -97,8 +86,5 @@ free-chain-spec =
     sub-i
     loop-less
     loop-again
-    add-links-2
-    mul-links-3
-    slice-write-links-3
     same-length
     returns)
