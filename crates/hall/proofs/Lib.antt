@@ -1,2 +1,2 @@
--- what a line and a turn leave of a run
+-- the loop over what was read, and the loop over the turns
 pub mod Going

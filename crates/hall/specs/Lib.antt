@@ -1,3 +1,2 @@
--- Where a run of a script stands, and what the program keeps.
-pub mod State
+-- Where the program stands, and what its parts keep.
 pub mod Runs

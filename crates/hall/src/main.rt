@@ -1,72 +1,259 @@
 // The script program: a script on standard input, its output on standard output. 01, "A script and its output".
-// Here are the buffers, the reading and the writing; what a line means and does is in the libraries.
-ghost use Rattle.hall.specs.Runs.{Begins, Goes, Sound, Stands};
-
-mod lines;
-mod output;
-mod state;
-
+// Here are the buffers, the reading and the writing; what becomes of what is read is `script_driver`'s.
+ghost use Rattle.script_driver.specs.Stores.{Formed};
+ghost use Rattle.script_driver.specs.Parts.{store};
+ghost use Rattle.hall.specs.Runs.{Placed, Roomy, Stands, FeedsAll, FedAll, Begins};
 use kernel_fresh::fresh;
 use layout::BYTES;
 use layout::LINKS;
 use layout::WORDS;
-use lines::last_line;
-use lines::play_window;
-use output::finish;
-use script_stream::keep;
-use script_stream::read_more;
-use state::Run;
+use script_driver::ROOM;
+use script_driver::Run;
+use script_driver::feed;
+use script_driver::finish;
+use script_driver::line::HELD;
+use script_text::lines::NUMBERS;
+use values::limit::MIN_BUFFER;
+use values::limit::MIN_SCRATCH;
 
-// Reads once, and plays the lines that have ended; at the end of the input, the last line.
+// So many turns, of 65,536 bytes at most, that no run uses them up, and that their lines can be counted in 64 bits.
+const TURNS: u64 = 140737488355328;
+
+// Between two turns.
+struct Stand {
+    pub run: Run,
+    // So many places of the output buffer are taken.
+    pub at: usize,
+    // More is to be read: the input has not ended, and no write failed.
+    pub going: bool,
+}
+
+// Writes out what the buffer holds, where an answer and the end may not fit after it. A failed write ends the run.
+fn make_room(out: &[u8], stand: Stand) -> Stand
+    requires { ⌜ Placed (now out) stand ⌝ }
+    ensures { λ r. ⌜ Roomy (now (out .entry)) stand r ⌝ }
+{
+    let at = stand.at;
+    if at + ROOM <= out.len() {
+        return stand;
+    }
+    let run = stand.run;
+    Stand {
+        run,
+        at: 0,
+        going: io::write_all(1, &out[..at]),
+    }
+}
+
+// Feeds the driver what was read, and writes where there is no room.
+fn feed_all(
+    bytes: &mut [u8],
+    links: &mut [u16],
+    words: &mut [u32],
+    numbers: &mut [u32],
+    text: &mut [u8],
+    buffer: &mut [u8],
+    scratch: &mut [u16],
+    held: &mut [u8],
+    window: &[u8],
+    out: &mut [u8],
+    begun: Stand,
+) -> Stand
+    requires { ⌜ FeedsAll (store (now bytes) (now links) (now words)) (now held) (now numbers) (now text) (now buffer) (now scratch)
+        (now window) (now out) begun ⌝ }
+    ensures { λ r. ⌜ FedAll (store (now (bytes .exit)) (now (links .exit)) (now (words .exit))) (now (held .exit))
+        (now (numbers .exit)) (now (text .exit)) (now (buffer .exit)) (now (scratch .exit)) (now (window .entry)) (now (out .exit)) begun r ⌝ }
+{
+    let mut stand = begun;
+    let mut from = 0;
+    while from < window.len() && stand.going {
+        let ready = make_room(out, stand);
+        let run = ready.run;
+        let fed = feed(
+            bytes,
+            links,
+            words,
+            numbers,
+            text,
+            buffer,
+            scratch,
+            held,
+            &window[from..],
+            out,
+            ready.at,
+            run,
+        );
+        let next = fed.run;
+        stand = Stand {
+            run: next,
+            at: fed.at,
+            going: ready.going,
+        };
+        from += fed.taken;
+    }
+    stand
+}
+
+// The end of the input: the last lines are written, unless a write failed.
+fn end(
+    bytes: &mut [u8],
+    links: &mut [u16],
+    words: &mut [u32],
+    numbers: &mut [u32],
+    text: &mut [u8],
+    buffer: &mut [u8],
+    scratch: &mut [u16],
+    held: &[u8],
+    out: &mut [u8],
+    stand: Stand,
+)
+    requires { ⌜ Stands (store (now bytes) (now links) (now words)) (now held) (now numbers) (now text) (now buffer) (now scratch) (now out) stand ⌝ }
+    ensures { λ _. ⌜ Formed (store (now (bytes .exit)) (now (links .exit)) (now (words .exit))) ⌝ }
+{
+    let ready = make_room(out, stand);
+    if ready.going {
+        let run = ready.run;
+        let at = finish(
+            bytes,
+            links,
+            words,
+            numbers,
+            text,
+            buffer,
+            scratch,
+            held,
+            out,
+            ready.at,
+            run,
+        );
+        io::write_all(1, &out[..at]);
+    }
+}
+
+// Reads once, and feeds what came: nothing at the end of the input, or where a read fails.
 fn turn(
     bytes: &mut [u8],
     links: &mut [u16],
     words: &mut [u32],
+    numbers: &mut [u32],
+    text: &mut [u8],
+    buffer: &mut [u8],
+    scratch: &mut [u16],
+    held: &mut [u8],
     input: &mut [u8],
     out: &mut [u8],
-    run: Run,
-) -> Run
-    requires { ⌜ Goes (now bytes) (now links) (now words) (now input) (now out) run ⌝ }
-    ensures { λ r. ⌜ Stands (now (bytes .exit)) (now (links .exit)) (now (words .exit)) (now (input .exit)) (now (out .exit)) r ⌝ }
+    stand: Stand,
+) -> Stand
+    requires { ⌜ FeedsAll (store (now bytes) (now links) (now words)) (now held) (now numbers) (now text) (now buffer) (now scratch)
+        (now input) (now out) stand ⌝ }
+    ensures { λ r. ⌜ FedAll (store (now (bytes .exit)) (now (links .exit)) (now (words .exit))) (now (held .exit))
+        (now (numbers .exit)) (now (text .exit)) (now (buffer .exit)) (now (scratch .exit)) (now (input .entry)) (now (out .exit)) stand r ⌝ }
 {
-    let held = run.held;
-    let to = read_more(input, held);
-    if to == held {
-        return last_line(bytes, links, words, &input[..held], out, run);
+    let got = libc::read(0, input);
+    let n = io::count(got, input);
+    if 0 < n {
+        return feed_all(
+            bytes,
+            links,
+            words,
+            numbers,
+            text,
+            buffer,
+            scratch,
+            held,
+            &input[..n],
+            out,
+            stand,
+        );
     }
-    let after = play_window(bytes, links, words, &input[..to], out, run);
-    let kept = keep(input, to - after.held, to);
-    after.holds(kept)
+    end(
+        bytes,
+        links,
+        words,
+        numbers,
+        text,
+        buffer,
+        scratch,
+        held,
+        out,
+        stand,
+    );
+    let run = stand.run;
+    Stand {
+        run,
+        at: 0,
+        going: false,
+    }
 }
 
-// Turn after turn; nothing says that the input ends, so the turns are counted down, from a number that no run uses up.
+// Turn after turn; nothing says that the input ends, so the turns are counted down.
 fn play_all(
     bytes: &mut [u8],
     links: &mut [u16],
     words: &mut [u32],
+    numbers: &mut [u32],
+    text: &mut [u8],
+    buffer: &mut [u8],
+    scratch: &mut [u16],
+    held: &mut [u8],
     input: &mut [u8],
     out: &mut [u8],
-) -> Run
-    requires { ⌜ Begins (now bytes) (now links) (now words) (now input) (now out) ⌝ }
-    ensures { λ r. ⌜ Sound (now (bytes .exit)) (now (links .exit)) (now (words .exit)) (now (out .exit)) r ⌝ }
+)
+    requires { ⌜ Begins (store (now bytes) (now links) (now words)) (now held) (now numbers) (now text) (now buffer) (now scratch)
+        (now input) (now out) ⌝ }
 {
-    let mut run = Run::begun();
-    let mut turns = u64::MAX;
-    while turns > 0 && run.going {
-        run = turn(bytes, links, words, input, out, run);
+    let begun = Run {
+        number: 0,
+        bad: false,
+        count: 0,
+    };
+    let mut stand = Stand {
+        run: begun,
+        at: 0,
+        going: true,
+    };
+    let mut turns = TURNS;
+    while turns > 0 && stand.going {
+        stand = turn(
+            bytes,
+            links,
+            words,
+            numbers,
+            text,
+            buffer,
+            scratch,
+            held,
+            input,
+            out,
+            stand,
+        );
         turns -= 1;
     }
-    run
 }
 
 fn main() {
     let mut bytes = [0u8; BYTES];
     let mut links = [0u16; LINKS];
     let mut words = [0u32; WORDS];
+    let mut numbers = [0u32; NUMBERS];
+    let mut text = [0u8; NUMBERS];
+    let mut buffer = [0u8; MIN_BUFFER];
+    let mut scratch = [0u16; MIN_SCRATCH];
+    let mut held = [0u8; HELD];
     let mut input = io::large_buffer();
     let mut out = io::large_buffer();
     // a store with no money, until line one says what it holds
     fresh(0, [0, 0], &mut bytes, &mut links, &mut words);
-    let run = play_all(&mut bytes, &mut links, &mut words, &mut input, &mut out);
-    finish(&bytes, &links, &words, &mut out, run);
+    play_all(
+        &mut bytes,
+        &mut links,
+        &mut words,
+        &mut numbers,
+        &mut text,
+        &mut buffer,
+        &mut scratch,
+        &mut held,
+        &mut input,
+        &mut out,
+    );
 }

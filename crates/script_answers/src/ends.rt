@@ -2,6 +2,7 @@
 ghost use Prim.Native.Nat.{ℕ, _+_, _≤_};
 ghost use mathlib.Core.List.{List, [], _∷_};
 ghost use lib.ListN.{length};
+ghost use Rattle.rules.specs.Code as Code;
 ghost use Rattle.layout.specs.View.{view};
 ghost use Rattle.check_rows.specs.Slices.{LinksWords};
 ghost use Rattle.check_money.specs.Amount.{MastersAre};
@@ -16,13 +17,15 @@ use layout::HOUSE;
 use script_text::write::put_after;
 use script_text::write::put_byte;
 use script_text::write::put_line;
+use values::code::OUT_OF_RANGE;
+use values::limit::MAX_CAPS;
 
 // "If bad or absent, `0 2` is all it writes."
 pub fn bad_first_line(out: &mut [u8], at: usize) -> usize
     requires { ⌜ at + REFUSAL ≤ length (now out) ⌝ }
-    ensures { λ r. ⌜ Put REFUSAL (now (out .entry)) at (lineOf (0 ∷ 2 ∷ [])) (now (out .exit)) r ⌝ }
+    ensures { λ r. ⌜ Put REFUSAL (now (out .entry)) at (lineOf (0 ∷ Code.outOfRange ∷ [])) (now (out .exit)) r ⌝ }
 {
-    let others = [2u32];
+    let others = [OUT_OF_RANGE];
     put_line(out, at, 0, &others)
 }
 
@@ -32,7 +35,7 @@ fn all_masters(links: &[u16], words: &[u32]) -> u64
     ensures { λ r. ⌜ ((b : List ℕ) → MastersAre b (now (links .entry)) (now (words .entry)) r) ⌝ }
 {
     let mut total: u64 = 0;
-    let mut i: usize = 512;
+    let mut i: usize = MAX_CAPS;
     while 0 < i {
         total += money_at(links, words, i).0 as u64;
         i -= 1;

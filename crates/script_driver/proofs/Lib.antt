@@ -10,3 +10,5 @@ pub mod Bridging
 pub mod Linking
 -- how far a turn comes
 pub mod Going
+-- the store before line one
+pub mod Opening

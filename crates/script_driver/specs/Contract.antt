@@ -6,8 +6,7 @@ use mathlib.Core.Bool.{Bool, true, false}
 use mathlib.Core.List.{List, [], _++_}
 use lib.ListN.{length, take, drop}
 use Rattle.script_text.specs.Pasted.{Wrote}
-use Rattle.script_answers.specs.Room.{TOTALS}
-use Rattle.script_driver.specs.Turns.{Stage, opening, closed, playing, At, HELD, ANSWER, Feeds, Ends}
+use Rattle.script_driver.specs.Turns.{Stage, opening, closed, playing, At, HELD, Feeds, Ends}
 use Rattle.script_driver.specs.Stores.{Store, Formed, stores}
 
 -- line numbers have 64 bits
@@ -72,10 +71,13 @@ pub record Feeding (s : Store) (held : List ℕ) (r : Run) (window out : List �
 -- ---- the end of the input
 
 -- room for an answer and for the totals
+abbrev pub ROOM : ℕ
+ROOM = 2916
+
 pub record FinishAsks (s : Store) (held : List ℕ) (r : Run) (out : List ℕ) (at : ℕ) : Type 0 where
   pub stands : Stands s held r
   pub counted : r .number + 1 ≤ LAST
-  pub room : at + ANSWER + TOTALS ≤ length out
+  pub room : at + ROOM ≤ length out
 
 pub record Finishing (s : Store) (held : List ℕ) (r : Run) (out : List ℕ) (at : ℕ) (s′ : Store) (out′ : List ℕ) (x : ℕ) : Type 0 where
   pub text : List ℕ

@@ -14,6 +14,9 @@ use script_answers::ends::bad_first_line;
 use script_answers::ends::totals_line;
 use script_text::lines::line_end;
 
+// Room for an answer and for the last line of the output.
+pub const ROOM: usize = 2916;
+
 // Where a run stands between two turns.
 pub struct Run {
     // The next line's number, "counted from 1" after line one; 0 before line one.

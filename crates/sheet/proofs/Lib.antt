@@ -1,2 +1,2 @@
--- the store after line one
-pub mod Starting
+-- the loop over the lines of a window, and the loop over the turns
+pub mod Going

@@ -1,54 +1,74 @@
-// The lines of a window of the input, in turn.
-ghost use Rattle.layout.specs.WellFormed.{WellFormed};
-ghost use Rattle.sheet.specs.Runs.{WindowDone};
-use crate::ended::any_ended;
-use crate::ended::note_all;
-use crate::ended::put_all_ended;
-use crate::output::put;
-use crate::output::put_number;
-use crate::state::Run;
+// The lines of a window of the input, one at a time, so that the store is seen before and after each.
+ghost use Prim.Native.Nat.{_+_, min};
+ghost use mathlib.Core.Path.{_≡_};
+ghost use Rattle.script_driver.specs.Parts.{store};
+ghost use Rattle.sheet.specs.Runs.{LineAsks, RunDone, StandDone};
+use crate::state::Stand;
 use script_answers::answer::ANSWER;
-use script_play::line::play_line;
-use script_play::start::start;
+use script_driver::Run;
+use script_driver::feed;
 use script_text::lines::line_end;
-use script_text::read::read_line;
+use sheet_draw::ended::NOTED;
+use sheet_draw::ended::note_all;
+use sheet_draw::ended::put_ending;
 
-// The call number that a line says, and 0 where it says none.
-fn call_number(line: &[u8]) -> u32 {
-    let mut numbers = [0u32; 1024];
-    let n = read_line(line, &mut numbers);
-    if n == 0 {
+// Byte i of a line of which `count` bytes are held, and the window is the rest; 0 where it has none.
+fn byte_of(held: &[u8], count: usize, window: &[u8], i: usize) -> u8 {
+    if i < count {
+        if i < held.len() {
+            return held[i];
+        }
         return 0;
     }
-    numbers[0]
+    let k = i - count;
+    if k < window.len() {
+        return window[k];
+    }
+    0
 }
 
-// A line on the store; its answer is not shown.
-fn silent_line(bytes: &mut [u8], links: &mut [u16], words: &mut [u32], line: &[u8], number: u32)
-    requires { ⌜ WellFormed (now bytes) (now links) (now words) ⌝ }
-    ensures { λ _. ⌜ WellFormed (now (bytes .exit)) (now (links .exit)) (now (words .exit)) ⌝ }
+// The call that a line says, if one digit does: as that digit.
+fn call_of(held: &[u8], count: usize, window: &[u8]) -> u8 {
+    if byte_of(held, count, window, 1) == 32 {
+        return byte_of(held, count, window, 0);
+    }
+    0
+}
+
+// A line; its answer is not shown.
+fn silent_line(
+    bytes: &mut [u8],
+    links: &mut [u16],
+    words: &mut [u32],
+    numbers: &mut [u32],
+    text: &mut [u8],
+    buffer: &mut [u8],
+    scratch: &mut [u16],
+    held: &mut [u8],
+    window: &[u8],
+    run: Run,
+) -> Run
+    requires { ⌜ LineAsks (store (now bytes) (now links) (now words)) (now held) (now numbers) (now text) (now buffer) (now scratch)
+        (now window) run ⌝ }
+    ensures { λ r. ⌜ RunDone (store (now (bytes .exit)) (now (links .exit)) (now (words .exit))) (now (held .exit))
+        (now (numbers .exit)) (now (text .exit)) (now (buffer .exit)) (now (scratch .exit)) (now (window .entry)) run r ⌝ }
 {
     let mut answer = [0u8; ANSWER];
-    play_line(bytes, links, words, line, number as u64, &mut answer, 0);
-}
-
-// The line's number and its call, and what it ended, if it ended anything.
-fn put_ending(
-    links: &[u16],
-    words: &[u32],
-    before: &[u32],
-    out: &mut [u8],
-    at: usize,
-    number: u32,
-    call: &[u8],
-) -> usize {
-    if any_ended(links, words, before) {
-        let a = put(out, at, b"line ");
-        let b = put_number(out, a, number);
-        let c = put(out, b, call);
-        return put_all_ended(links, words, before, out, c);
-    }
-    at
+    let fed = feed(
+        bytes,
+        links,
+        words,
+        numbers,
+        text,
+        buffer,
+        scratch,
+        held,
+        window,
+        &mut answer,
+        0,
+        run,
+    );
+    fed.run
 }
 
 // A line of a call that ends capabilities, and what it ended.
@@ -56,113 +76,243 @@ fn ending_line(
     bytes: &mut [u8],
     links: &mut [u16],
     words: &mut [u32],
-    line: &[u8],
+    numbers: &mut [u32],
+    text: &mut [u8],
+    buffer: &mut [u8],
+    scratch: &mut [u16],
+    held: &mut [u8],
+    window: &[u8],
     out: &mut [u8],
-    run: Run,
+    stand: Stand,
     call: &[u8],
-) -> usize
-    requires { ⌜ WellFormed (now bytes) (now links) (now words) ⌝ }
-    ensures { λ _. ⌜ WellFormed (now (bytes .exit)) (now (links .exit)) (now (words .exit)) ⌝ }
+) -> Stand
+    requires { ⌜ LineAsks (store (now bytes) (now links) (now words)) (now held) (now numbers) (now text) (now buffer) (now scratch)
+        (now window) (stand .run) ⌝ }
+    ensures { λ r. ⌜ StandDone (store (now (bytes .exit)) (now (links .exit)) (now (words .exit))) (now (held .exit))
+        (now (numbers .exit)) (now (text .exit)) (now (buffer .exit)) (now (scratch .exit)) (now (window .entry)) (stand .run) r ⌝ }
 {
-    let mut before = [0u32; 2565];
+    let mut before = [0u32; NOTED];
+    let run = stand.run;
     note_all(bytes, links, words, &mut before);
-    silent_line(bytes, links, words, line, run.number);
-    put_ending(links, words, &before, out, run.at, run.number, call)
+    let next = silent_line(
+        bytes,
+        links,
+        words,
+        numbers,
+        text,
+        buffer,
+        scratch,
+        held,
+        window,
+        run,
+    );
+    Stand {
+        run: next,
+        at: put_ending(links, words, &before, out, stand.at, run.number, call),
+    }
 }
 
-// A line after line one; answers the place after what was put.
+// A line that ends no capability.
+fn other_line(
+    bytes: &mut [u8],
+    links: &mut [u16],
+    words: &mut [u32],
+    numbers: &mut [u32],
+    text: &mut [u8],
+    buffer: &mut [u8],
+    scratch: &mut [u16],
+    held: &mut [u8],
+    window: &[u8],
+    stand: Stand,
+) -> Stand
+    requires { ⌜ LineAsks (store (now bytes) (now links) (now words)) (now held) (now numbers) (now text) (now buffer) (now scratch)
+        (now window) (stand .run) ⌝ }
+    ensures { λ r. ⌜ StandDone (store (now (bytes .exit)) (now (links .exit)) (now (words .exit))) (now (held .exit))
+        (now (numbers .exit)) (now (text .exit)) (now (buffer .exit)) (now (scratch .exit)) (now (window .entry)) (stand .run) r ⌝ }
+{
+    let run = stand.run;
+    let next = silent_line(
+        bytes,
+        links,
+        words,
+        numbers,
+        text,
+        buffer,
+        scratch,
+        held,
+        window,
+        run,
+    );
+    Stand {
+        run: next,
+        at: stand.at,
+    }
+}
+
+// A line after line one, or a part of one.
 fn later_line(
     bytes: &mut [u8],
     links: &mut [u16],
     words: &mut [u32],
-    line: &[u8],
+    numbers: &mut [u32],
+    text: &mut [u8],
+    buffer: &mut [u8],
+    scratch: &mut [u16],
+    held: &mut [u8],
+    window: &[u8],
     out: &mut [u8],
-    run: Run,
-) -> usize
-    requires { ⌜ WellFormed (now bytes) (now links) (now words) ⌝ }
-    ensures { λ _. ⌜ WellFormed (now (bytes .exit)) (now (links .exit)) (now (words .exit)) ⌝ }
+    stand: Stand,
+) -> Stand
+    requires { ⌜ LineAsks (store (now bytes) (now links) (now words)) (now held) (now numbers) (now text) (now buffer) (now scratch)
+        (now window) (stand .run) ⌝ }
+    ensures { λ r. ⌜ StandDone (store (now (bytes .exit)) (now (links .exit)) (now (words .exit))) (now (held .exit))
+        (now (numbers .exit)) (now (text .exit)) (now (buffer .exit)) (now (scratch .exit)) (now (window .entry)) (stand .run) r ⌝ }
 {
-    let call = call_number(line);
-    if call == 6 {
-        return ending_line(bytes, links, words, line, out, run, b": delete_cap ended\n");
+    let run = stand.run;
+    let call = call_of(held, run.count, window);
+    if call == 54 {
+        return ending_line(
+            bytes,
+            links,
+            words,
+            numbers,
+            text,
+            buffer,
+            scratch,
+            held,
+            window,
+            out,
+            stand,
+            b": delete_cap ended\n",
+        );
     }
-    if call == 7 {
-        return ending_line(bytes, links, words, line, out, run, b": rename_obj ended\n");
+    if call == 55 {
+        return ending_line(
+            bytes,
+            links,
+            words,
+            numbers,
+            text,
+            buffer,
+            scratch,
+            held,
+            window,
+            out,
+            stand,
+            b": rename_obj ended\n",
+        );
     }
-    silent_line(bytes, links, words, line, run.number);
-    run.at
+    other_line(
+        bytes,
+        links,
+        words,
+        numbers,
+        text,
+        buffer,
+        scratch,
+        held,
+        window,
+        stand,
+    )
 }
 
-// Line one: no more lines are played after a bad one.
-fn first_line(bytes: &mut [u8], links: &mut [u16], words: &mut [u32], line: &[u8], run: Run) -> Run
-    requires { ⌜ WellFormed (now bytes) (now links) (now words) ⌝ }
-    ensures { λ _. ⌜ WellFormed (now (bytes .exit)) (now (links .exit)) (now (words .exit)) ⌝ }
-{
-    if start(line, bytes, links, words) {
-        return run.after(run.at);
-    }
-    run.ended()
-}
-
-// A line, without its end.
-fn one_line(
+// A line that ends with the window, or a part of one.
+pub fn one_line(
     bytes: &mut [u8],
     links: &mut [u16],
     words: &mut [u32],
-    line: &[u8],
+    numbers: &mut [u32],
+    text: &mut [u8],
+    buffer: &mut [u8],
+    scratch: &mut [u16],
+    held: &mut [u8],
+    window: &[u8],
     out: &mut [u8],
-    run: Run,
-) -> Run
-    requires { ⌜ WellFormed (now bytes) (now links) (now words) ⌝ }
-    ensures { λ _. ⌜ WellFormed (now (bytes .exit)) (now (links .exit)) (now (words .exit)) ⌝ }
+    stand: Stand,
+) -> Stand
+    requires { ⌜ LineAsks (store (now bytes) (now links) (now words)) (now held) (now numbers) (now text) (now buffer) (now scratch)
+        (now window) (stand .run) ⌝ }
+    ensures { λ r. ⌜ StandDone (store (now (bytes .exit)) (now (links .exit)) (now (words .exit))) (now (held .exit))
+        (now (numbers .exit)) (now (text .exit)) (now (buffer .exit)) (now (scratch .exit)) (now (window .entry)) (stand .run) r ⌝ }
 {
+    let run = stand.run;
     if run.number == 0 {
-        return first_line(bytes, links, words, line, run);
+        return other_line(
+            bytes,
+            links,
+            words,
+            numbers,
+            text,
+            buffer,
+            scratch,
+            held,
+            window,
+            stand,
+        );
     }
-    let at = later_line(bytes, links, words, line, out, run);
-    run.after(at)
+    later_line(
+        bytes,
+        links,
+        words,
+        numbers,
+        text,
+        buffer,
+        scratch,
+        held,
+        window,
+        out,
+        stand,
+    )
 }
 
-// "The last line may lack its end; nothing after a last byte 10 is no line."
-pub fn last_line(
-    bytes: &mut [u8],
-    links: &mut [u16],
-    words: &mut [u32],
-    line: &[u8],
-    out: &mut [u8],
-    run: Run,
-) -> Run
-    requires { ⌜ WellFormed (now bytes) (now links) (now words) ⌝ }
-    ensures { λ _. ⌜ WellFormed (now (bytes .exit)) (now (links .exit)) (now (words .exit)) ⌝ }
+// The place after a line end, or the window's end where there is none.
+fn past(end: usize, to: usize) -> usize
+    ensures { λ r. ⌜ r ≡ min (end + 1) to ⌝ }
 {
-    if line.len() == 0 {
-        return run.ended();
+    if end < to {
+        return end + 1;
     }
-    let after = one_line(bytes, links, words, line, out, run);
-    after.ended()
+    to
 }
 
-// The lines that end in the window; what stands after the last end is held.
+// The lines of a window, in turn.
 pub fn play_window(
     bytes: &mut [u8],
     links: &mut [u16],
     words: &mut [u32],
+    numbers: &mut [u32],
+    text: &mut [u8],
+    buffer: &mut [u8],
+    scratch: &mut [u16],
+    held: &mut [u8],
     window: &[u8],
     out: &mut [u8],
-    run: Run,
-) -> Run
-    requires { ⌜ WellFormed (now bytes) (now links) (now words) ⌝ }
-    ensures { λ r. ⌜ WindowDone (now (window .entry)) (now (bytes .exit)) (now (links .exit)) (now (words .exit)) r ⌝ }
+    begun: Stand,
+) -> Stand
+    requires { ⌜ LineAsks (store (now bytes) (now links) (now words)) (now held) (now numbers) (now text) (now buffer) (now scratch)
+        (now window) (begun .run) ⌝ }
+    ensures { λ r. ⌜ StandDone (store (now (bytes .exit)) (now (links .exit)) (now (words .exit))) (now (held .exit))
+        (now (numbers .exit)) (now (text .exit)) (now (buffer .exit)) (now (scratch .exit)) (now (window .entry)) (begun .run) r ⌝ }
 {
-    let mut now = run;
+    let mut stand = begun;
     let mut from = 0;
-    while now.going {
+    while from < window.len() {
         let end = line_end(window, from, window.len());
-        if end == window.len() {
-            return now.holds(end - from);
-        }
-        now = one_line(bytes, links, words, &window[from..end], out, now);
-        from = end + 1;
+        let to = past(end, window.len());
+        stand = one_line(
+            bytes,
+            links,
+            words,
+            numbers,
+            text,
+            buffer,
+            scratch,
+            held,
+            &window[from..to],
+            out,
+            stand,
+        );
+        from = to;
     }
-    now.holds(0)
+    stand
 }

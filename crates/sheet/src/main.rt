@@ -1,102 +1,156 @@
 // The acceptance sheet: a script on standard input is run on the store, and what became of the capabilities is drawn as
 // text for a person: what each done delete or rename ended, then each object with its tree.
-ghost use Rattle.layout.specs.WellFormed.{WellFormed};
-ghost use Rattle.sheet.specs.Runs.{Stands};
+ghost use Rattle.script_driver.specs.Parts.{store};
+ghost use Rattle.sheet.specs.Runs.{Begins, LastAsks};
 
-mod draw;
-mod ended;
-mod fields;
 mod lines;
-mod output;
-mod rights;
 mod state;
 
-use draw::put_objects;
 use kernel_fresh::fresh;
 use layout::BYTES;
 use layout::LINKS;
 use layout::WORDS;
-use lines::last_line;
+use lines::one_line;
 use lines::play_window;
-use output::put;
-use output::write_out;
-use script_stream::keep;
-use script_stream::read_more;
-use state::Run;
+use script_driver::Run;
+use script_driver::line::HELD;
+use script_text::lines::NUMBERS;
+use sheet_draw::draw::put_objects;
+use sheet_draw::output::put;
+use sheet_draw::output::write_out;
+use state::Stand;
+use values::limit::MIN_BUFFER;
+use values::limit::MIN_SCRATCH;
 
-// Reads once, and plays the lines that have ended; at the end of the input, the last line.
-fn turn(
+// So many turns, of 65,536 bytes at most, that no run uses them up, and that their lines can be counted in 64 bits.
+const TURNS: u64 = 140737488355328;
+
+// "The last line may lack its end": it is given one.
+fn last_line(
     bytes: &mut [u8],
     links: &mut [u16],
     words: &mut [u32],
-    input: &mut [u8],
+    numbers: &mut [u32],
+    text: &mut [u8],
+    buffer: &mut [u8],
+    scratch: &mut [u16],
+    held: &mut [u8],
     out: &mut [u8],
-    run: Run,
-) -> Run
-    requires { ⌜ Stands (now bytes) (now links) (now words) (now input) run ⌝ }
-    ensures { λ r. ⌜ Stands (now (bytes .exit)) (now (links .exit)) (now (words .exit)) (now (input .exit)) r ⌝ }
+    stand: Stand,
+) -> Stand
+    requires { ⌜ LastAsks (store (now bytes) (now links) (now words)) (now held) (now numbers) (now text) (now buffer) (now scratch)
+        (stand .run) ⌝ }
 {
-    let held = run.held;
-    let to = read_more(input, held);
-    if to == held {
-        let last = last_line(bytes, links, words, &input[..held], out, run);
-        return last.holds(0);
+    let run = stand.run;
+    if run.count == 0 {
+        return stand;
     }
-    let after = play_window(bytes, links, words, &input[..to], out, run);
-    let kept = keep(input, to - after.held, to);
-    after.holds(kept)
+    one_line(
+        bytes,
+        links,
+        words,
+        numbers,
+        text,
+        buffer,
+        scratch,
+        held,
+        b"\n",
+        out,
+        stand,
+    )
 }
 
-// Turn after turn; nothing says that the input ends, so the turns are counted down, from a number that no run uses up.
+// Reads and plays, turn after turn, until nothing comes; nothing says that the input ends, so the turns are counted down.
 fn play_all(
     bytes: &mut [u8],
     links: &mut [u16],
     words: &mut [u32],
+    numbers: &mut [u32],
+    text: &mut [u8],
+    buffer: &mut [u8],
+    scratch: &mut [u16],
+    held: &mut [u8],
     input: &mut [u8],
     out: &mut [u8],
-    begun: Run,
-) -> Run
-    requires { ⌜ Stands (now bytes) (now links) (now words) (now input) begun ⌝ }
+) -> Stand
+    requires { ⌜ Begins (store (now bytes) (now links) (now words)) (now held) (now numbers) (now text) (now buffer) (now scratch)
+        (now input) ⌝ }
 {
-    let mut run = begun;
-    let mut turns = u64::MAX;
-    while turns > 0 && run.going {
-        run = turn(bytes, links, words, input, out, run);
+    let begun = Run {
+        number: 0,
+        bad: false,
+        count: 0,
+    };
+    let mut stand = Stand { run: begun, at: 0 };
+    let mut going = true;
+    let mut turns = TURNS;
+    while turns > 0 && going {
+        let got = libc::read(0, input);
+        let n = io::count(got, input);
+        stand = play_window(
+            bytes,
+            links,
+            words,
+            numbers,
+            text,
+            buffer,
+            scratch,
+            held,
+            &input[..n],
+            out,
+            stand,
+        );
+        going = 0 < n;
         turns -= 1;
     }
-    run
+    last_line(
+        bytes,
+        links,
+        words,
+        numbers,
+        text,
+        buffer,
+        scratch,
+        held,
+        out,
+        stand,
+    )
 }
 
 // "Line one .. if bad or absent, `0 2` is all it writes"; else the objects.
-fn put_end(bytes: &[u8], links: &[u16], words: &[u32], out: &mut [u8], run: Run) -> usize {
+fn put_end(bytes: &[u8], links: &[u16], words: &[u32], out: &mut [u8], stand: Stand) -> usize {
+    let run = stand.run;
     if run.number == 0 {
-        return put(out, run.at, b"0 2\n");
+        return put(out, stand.at, b"0 2\n");
     }
-    put_objects(bytes, links, words, out, run.at)
+    put_objects(bytes, links, words, out, stand.at)
 }
 
 fn main() {
     let mut bytes = [0u8; BYTES];
     let mut links = [0u16; LINKS];
     let mut words = [0u32; WORDS];
+    let mut numbers = [0u32; NUMBERS];
+    let mut text = [0u8; NUMBERS];
+    let mut buffer = [0u8; MIN_BUFFER];
+    let mut scratch = [0u16; MIN_SCRATCH];
+    let mut held = [0u8; HELD];
     let mut input = io::large_buffer();
     let mut out = io::large_buffer();
     // a store with no money, until line one says what it holds
     fresh(0, [0, 0], &mut bytes, &mut links, &mut words);
-    let begun = Run {
-        number: 0,
-        at: 0,
-        held: 0,
-        going: true,
-    };
-    let run = play_all(
+    let stand = play_all(
         &mut bytes,
         &mut links,
         &mut words,
+        &mut numbers,
+        &mut text,
+        &mut buffer,
+        &mut scratch,
+        &mut held,
         &mut input,
         &mut out,
-        begun,
     );
-    let at = put_end(&bytes, &links, &words, &mut out, run);
+    let at = put_end(&bytes, &links, &words, &mut out, stand);
     write_out(&out, at);
 }

@@ -1,5 +1,6 @@
 -- `main`'s store is well formed before line one, too.
-use Rattle.hall.proofs.Going.{fresh-begins}
+use mathlib.Core.Path.{sym}
+use Rattle.script_driver.proofs.Opening.{fresh-formed}
 use borrow.Author.Needs.{needs}
 use Rattle.hall.proofs.main.Statement.{statement}
 use Rattle.hall.proofs.main.Tie as tie
@@ -37,24 +38,29 @@ slice-aggregate-play-all-4 c = search needs
 slice-aggregate-play-all-5 : tie.Need-slice-aggregate-play-all-5
 slice-aggregate-play-all-5 c = search needs
 
+slice-aggregate-play-all-6 : tie.Need-slice-aggregate-play-all-6
+slice-aggregate-play-all-6 c = search needs
+
+slice-aggregate-play-all-7 : tie.Need-slice-aggregate-play-all-7
+slice-aggregate-play-all-7 c = search needs
+
+slice-aggregate-play-all-8 : tie.Need-slice-aggregate-play-all-8
+slice-aggregate-play-all-8 c = search needs
+
+slice-aggregate-play-all-9 : tie.Need-slice-aggregate-play-all-9
+slice-aggregate-play-all-9 c = search needs
+
+slice-aggregate-play-all-10 : tie.Need-slice-aggregate-play-all-10
+slice-aggregate-play-all-10 c = search needs
+
 play-all-requires : tie.Need-play-all-requires
-play-all-requires c κs = fresh-begins (c .before .before .before .before .before .before .before .before .fresh .ensures)
-    (record { bytes = search needs; links = search needs; words = search needs }) (c .before .before .before .before .before .before .before .before .before .before .before .before .before .large-buffer .ensures) (c .before .before .before .before .before .before .before .before .before .before .before .before .large-buffer2 .ensures)
-
-slice-aggregate-finish : tie.Need-slice-aggregate-finish
-slice-aggregate-finish c = search needs
-
-slice-aggregate-finish-2 : tie.Need-slice-aggregate-finish-2
-slice-aggregate-finish-2 c = search needs
-
-slice-aggregate-finish-3 : tie.Need-slice-aggregate-finish-3
-slice-aggregate-finish-3 c = search needs
-
-slice-aggregate-finish-4 : tie.Need-slice-aggregate-finish-4
-slice-aggregate-finish-4 c = search needs
-
-finish-requires : tie.Need-finish-requires
-finish-requires c κs = search needs
+play-all-requires c κs = record {
+  formed = fresh-formed (c .before .before .before .before .before .before .before .before .before .before .before .before .before .fresh .ensures) (record { bytes = search needs; links = search needs; words = search needs });
+  size = search needs;
+  working = search needs;
+  input-size = sym (c .before .before .before .before .before .before .before .before .before .before .before .before .before .before .before .before .before .before .large-buffer .ensures);
+  output-size = sym (c .before .before .before .before .before .before .before .before .before .before .before .before .before .before .before .before .before .large-buffer2 .ensures);
+}
 
 returns : tie.Need-returns
 returns c = search needs
@@ -74,10 +80,10 @@ main-spec =
     slice-aggregate-play-all-3
     slice-aggregate-play-all-4
     slice-aggregate-play-all-5
+    slice-aggregate-play-all-6
+    slice-aggregate-play-all-7
+    slice-aggregate-play-all-8
+    slice-aggregate-play-all-9
+    slice-aggregate-play-all-10
     play-all-requires
-    slice-aggregate-finish
-    slice-aggregate-finish-2
-    slice-aggregate-finish-3
-    slice-aggregate-finish-4
-    finish-requires
     returns)

@@ -1,26 +1,32 @@
--- `turn` holds no more bytes than tell that a line is too long.
+-- `turn` feeds what was read, or ends the run.
+use Prim.Native.Nat.{_≤_}
 use mathlib.Core.Path.{sym, _∙_}
 use native.Mathlib.Omega.{arith}
-use lib.ListN.{length-take}
-use lib.Seq.{length-take-le}
-use Rattle.hall.proofs.Going.{stands-last, stands-kept}
+use lib.ListN.{length}
+use Rattle.hall.proofs.Going.{fed-more}
 use borrow.Author.Needs.{needs}
 use Rattle.hall.proofs.turn.Statement.{statement}
 use Rattle.hall.proofs.turn.Tie as tie
 
-read-more-requires : tie.Need-read-more-requires
-read-more-requires c κs = search needs
+read-requires : tie.Need-read-requires
+read-requires c κs = search needs
 
-slice-reshare-prefix-last-line : tie.Need-slice-reshare-prefix-last-line
-slice-reshare-prefix-last-line c = search needs
+count-requires : tie.Need-count-requires
+count-requires c κs = search needs
 
-slice-aggregate-last-line : tie.Need-slice-aggregate-last-line
-slice-aggregate-last-line c =
-    let m = c .before .before .before .before .before .before .before in
-    sym (length-take-le _ _ (omega (arith, m .read-more .ensures .low, m .read-more .ensures .high)))
+slice-reshare-prefix-feed-all : tie.Need-slice-reshare-prefix-feed-all
+slice-reshare-prefix-feed-all c = search needs
 
-last-line-requires : tie.Need-last-line-requires
-last-line-requires c κs = search needs
+slice-aggregate-feed-all : tie.Need-slice-aggregate-feed-all
+slice-aggregate-feed-all c = search needs
+
+feed-all-requires : tie.Need-feed-all-requires
+feed-all-requires c κs =
+    let n = c .before .before .before .before .before .before .before .before .before .before .before in
+    record {
+      stands = c .before .before .before .before .before .before .before .before .before .before .before .before .before .before .before .before .before .before .before .before .before .before .before .before .before .before .before .pre .stands;
+      few = omega (arith, n .count .ensures .0 .0, n .count .ensures .0 .1, c .before .before .before .before .before .before .before .before .before .before .before .before .before .before .before .read .kept .1 .0, c .before .before .before .before .before .before .before .before .before .before .before .before .before .before .before .before .before .before .before .before .before .before .before .before .before .before .before .pre .few);
+    }
 
 same-length : tie.Need-same-length
 same-length c = search needs
@@ -37,33 +43,6 @@ same-length-4 c = search needs
 same-length-5 : tie.Need-same-length-5
 same-length-5 c = search needs
 
-returns : tie.Need-returns
-returns c =
-    let m = c .before .before .before .before .before .before .before .before .before .before .before .before .before .before .before .before .before in
-    let a = m .before .before .before .before .before .before .before in
-    stands-last (c .before .before .before .before .before .before .before .before .last-line .ensures) (a .pre .stands .held) (m .read-more .kept .0 ∙ a .pre .stands .input-size)
-
-slice-reshare-prefix-play-window : tie.Need-slice-reshare-prefix-play-window
-slice-reshare-prefix-play-window c = search needs
-
-slice-aggregate-play-window : tie.Need-slice-aggregate-play-window
-slice-aggregate-play-window c =
-    sym (length-take-le _ _ (c .before .before .before .before .before .before .before .read-more .ensures .high))
-
-play-window-requires : tie.Need-play-window-requires
-play-window-requires c κs = search needs
-
-sub-keep : tie.Need-sub-keep
-sub-keep c =
-    let m = c .before .before .before .before .before .before .before .before .before .before .before .before .before .before .before .before .before .before .before in
-    omega (arith, c .before .before .before .before .before .before .before .before .before .before .play-window .ensures .held, length-take (m .read-more .result) (m .read-more .last .0))
-
-keep-requires : tie.Need-keep-requires
-keep-requires c κs = search needs
-
-holds-requires : tie.Need-holds-requires
-holds-requires c κs = search needs
-
 same-length-6 : tie.Need-same-length-6
 same-length-6 c = search needs
 
@@ -74,40 +53,96 @@ same-length-8 : tie.Need-same-length-8
 same-length-8 c = search needs
 
 same-length-9 : tie.Need-same-length-9
-same-length-9 c = c .before .before .before .keep .kept .0 ∙ c .before .before .before .before .before .before .before .before .before .before .before .before .before .before .before .before .before .before .before .before .before .before .before .read-more .kept .0
+same-length-9 c = c .before .before .before .before .before .before .before .before .before .before .before .before .before .before .before .before .before .before .before .before .before .before .before .before .before .before .before .before .before .before .before .before .before .before .read .kept .1 .0
 
 same-length-10 : tie.Need-same-length-10
 same-length-10 c = search needs
 
+returns : tie.Need-returns
+returns c =
+    let n = c .before .before .before .before .before .before .before .before .before .before .before .before .before .before .before .before .before .before .before .before .before .before .before .before .before .before .before .before .before .before in
+    fed-more (c .before .before .before .before .before .before .before .before .before .before .before .before .before .before .before .before .before .before .feed-all .ensures) (omega (arith, n .count .ensures .0 .0, n .count .ensures .0 .1, n .before .before .before .before .read .kept .1 .0))
+
+end-requires : tie.Need-end-requires
+end-requires c κs = c .before .before .before .before .before .before .before .before .before .before .before .before .before .before .before .before .before .before .before .before .before .before .before .before .before .before .pre .stands
+
+same-length-11 : tie.Need-same-length-11
+same-length-11 c = search needs
+
+same-length-12 : tie.Need-same-length-12
+same-length-12 c = search needs
+
+same-length-13 : tie.Need-same-length-13
+same-length-13 c = search needs
+
+same-length-14 : tie.Need-same-length-14
+same-length-14 c = search needs
+
+same-length-15 : tie.Need-same-length-15
+same-length-15 c = search needs
+
+same-length-16 : tie.Need-same-length-16
+same-length-16 c = search needs
+
+same-length-17 : tie.Need-same-length-17
+same-length-17 c = search needs
+
+same-length-18 : tie.Need-same-length-18
+same-length-18 c = search needs
+
+same-length-19 : tie.Need-same-length-19
+same-length-19 c = search needs
+
+same-length-20 : tie.Need-same-length-20
+same-length-20 c = search needs
+
 returns-2 : tie.Need-returns-2
 returns-2 c =
-    let k = c .before .before .before in
-    let m = c .before .before .before .before .before .before .before .before .before .before .before .before .before .before .before .before .before .before .before .before .before .before .before in
-    stands-kept _ (c .before .before .before .before .before .before .before .before .before .before .before .before .before .before .play-window .ensures .sound) (c .holds .ensures) (omega (arith, k .keep .ensures .count)) (k .keep .kept .0 ∙ m .read-more .kept .0 ∙ m .before .before .before .before .before .before .before .pre .stands .input-size)
+    let e = c .before .before .before .before .before .before .before .before .before .before .before .before .before .before .before .before .before in
+    let a = e .before .before .before .before .before .before .before .before .before .before .before .before .before .before .before .before .before .before .before .before .before .before .before .before .before .before .before .pre .stands in
+    record {
+      stands = record { formed = e .end .ensures; size = a .stands .size; few = a .stands .few };
+      working = record {
+        numbers = e .end .kept .1 .1 .1 .0 ∙ a .working .numbers;
+        lent = record {
+          text = e .end .kept .1 .1 .1 .1 .0 ∙ a .working .lent .text;
+          buffer = e .end .kept .1 .1 .1 .1 .1 .0 ∙ a .working .lent .buffer;
+          scratch = e .end .kept .1 .1 .1 .1 .1 .1 .0 ∙ a .working .lent .scratch;
+        };
+      };
+      output = record { size = e .end .kept .1 .1 .1 .1 .1 .1 .1 .1 .0 ∙ a .output .size; placed = omega arith };
+      number = omega arith;
+    }
 
 pub turn-spec : {M : Type 1} → statement M
 turn-spec =
     tie.close
     (tie.spec
-    read-more-requires
-    slice-reshare-prefix-last-line
-    slice-aggregate-last-line
-    last-line-requires
+    read-requires
+    count-requires
+    slice-reshare-prefix-feed-all
+    slice-aggregate-feed-all
+    feed-all-requires
     same-length
     same-length-2
     same-length-3
     same-length-4
     same-length-5
-    returns
-    slice-reshare-prefix-play-window
-    slice-aggregate-play-window
-    play-window-requires
-    sub-keep
-    keep-requires
-    holds-requires
     same-length-6
     same-length-7
     same-length-8
     same-length-9
     same-length-10
+    returns
+    end-requires
+    same-length-11
+    same-length-12
+    same-length-13
+    same-length-14
+    same-length-15
+    same-length-16
+    same-length-17
+    same-length-18
+    same-length-19
+    same-length-20
     returns-2)

@@ -85,8 +85,7 @@ part-ended-end c = c .before .before .before .before .before .before .before .be
 ended-requires : tie.Need-ended-requires Inv-loop μ-loop
 ended-requires c κs =
     let t = c .before .before .before .before .before .before .before .before .before .before .before .before in
-    let i = t .before .before .loop .inv in
-    (
+    let i = t .before .before .loop .inv in (
       record {
         line = record {
           formed = i .0 .formed;
@@ -107,8 +106,7 @@ loop-less c = omega (arith, c .before .before .before .before .before .before .b
 loop-again : tie.Need-loop-again Inv-loop μ-loop
 loop-again c =
     let e = c .before .before .before .before .before .before .before .before .before .before .before .before .before .before .before .before .before .before in
-    let i = e .before .before .before .before .before .before .before .before .before .before .before .before .before .before .before .loop .inv in
-    (
+    let i = e .before .before .before .before .before .before .before .before .before .before .before .before .before .before .before .loop .inv in (
       inv-line (i .0) (leb-true ANSWER _ (e .before .before .before .before .before .before .before .before .before .before .before .before .before .if1 .taken)) (e .before .before .before .before .before .before .before .before .before .before .before .before .line-end .ensures) (e .before .before .before .before .before .before .before .before .before .before .before .if2 .left) (e .ended .ensures)
           (e .ended .kept .1 .1 .1 .1 .1 .1 .1 .1 .1 .0),
       record {

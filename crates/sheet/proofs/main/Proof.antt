@@ -1,7 +1,6 @@
 -- `main`'s store is well formed before line one, too.
 use mathlib.Core.Path.{sym}
-use native.Mathlib.Omega.{arith}
-use Rattle.sheet.proofs.Starting.{fresh-formed}
+use Rattle.script_driver.proofs.Opening.{fresh-formed}
 use borrow.Author.Needs.{needs}
 use Rattle.sheet.proofs.main.Statement.{statement}
 use Rattle.sheet.proofs.main.Tie as tie
@@ -39,13 +38,28 @@ slice-aggregate-play-all-4 c = search needs
 slice-aggregate-play-all-5 : tie.Need-slice-aggregate-play-all-5
 slice-aggregate-play-all-5 c = search needs
 
+slice-aggregate-play-all-6 : tie.Need-slice-aggregate-play-all-6
+slice-aggregate-play-all-6 c = search needs
+
+slice-aggregate-play-all-7 : tie.Need-slice-aggregate-play-all-7
+slice-aggregate-play-all-7 c = search needs
+
+slice-aggregate-play-all-8 : tie.Need-slice-aggregate-play-all-8
+slice-aggregate-play-all-8 c = search needs
+
+slice-aggregate-play-all-9 : tie.Need-slice-aggregate-play-all-9
+slice-aggregate-play-all-9 c = search needs
+
+slice-aggregate-play-all-10 : tie.Need-slice-aggregate-play-all-10
+slice-aggregate-play-all-10 c = search needs
+
 play-all-requires : tie.Need-play-all-requires
-play-all-requires c κs =
-    record {
-      formed = fresh-formed (c .before .before .before .before .before .before .before .before .fresh .ensures) (record { bytes = search needs; links = search needs; words = search needs });
-      input-size = sym (c .before .before .before .before .before .before .before .before .before .before .before .before .before .large-buffer .ensures);
-      held = omega arith;
-    }
+play-all-requires c κs = record {
+  formed = fresh-formed (c .before .before .before .before .before .before .before .before .before .before .before .before .before .fresh .ensures) (record { bytes = search needs; links = search needs; words = search needs });
+  size = search needs;
+  working = search needs;
+  input-size = sym (c .before .before .before .before .before .before .before .before .before .before .before .before .before .before .before .before .before .before .large-buffer .ensures);
+}
 
 slice-aggregate-put-end : tie.Need-slice-aggregate-put-end
 slice-aggregate-put-end c = search needs
@@ -86,6 +100,11 @@ main-spec =
     slice-aggregate-play-all-3
     slice-aggregate-play-all-4
     slice-aggregate-play-all-5
+    slice-aggregate-play-all-6
+    slice-aggregate-play-all-7
+    slice-aggregate-play-all-8
+    slice-aggregate-play-all-9
+    slice-aggregate-play-all-10
     play-all-requires
     slice-aggregate-put-end
     slice-aggregate-put-end-2

@@ -1,2 +1,0 @@
--- the input buffer
-pub mod Holding

@@ -1,2 +1,0 @@
--- The input buffer of a program that reads lines.
-pub mod Input
