@@ -117,16 +117,16 @@ fn number_at(line: &[u8], at: usize) -> Number
     }
 }
 
-// What goes on from place `at`, where no digit stands, after digits that say `value`, which is not 0.
-fn no_digit_on(line: &[u8], at: usize, value: u64) -> Number
-    requires { ⌜ NoDigit (now line) at value ⌝ }
-    ensures { λ r. ⌜ ScanOnIs (now (line .entry)) at value r ⌝ }
+// What goes on from place `end`, where no digit stands, after digits that say `value`, which is not 0.
+fn no_digit_on(line: &[u8], end: usize, value: u64) -> Number
+    requires { ⌜ NoDigit (now line) end value ⌝ }
+    ensures { λ r. ⌜ ScanOnIs (now (line .entry)) end value r ⌝ }
 {
-    if line[at] == 32 {
+    if line[end] == 32 {
         return Number {
             ok: true,
             value: value as u32,
-            end: at,
+            end,
         };
     }
     Number {
