@@ -24,7 +24,7 @@ unfolding isDigit
 digit b e = let f = all2 (leb 48 b) (leb b 57) e in
     record { low = leb-true _ _ (f .0); high = leb-true _ _ (f .1) }
 
-is-digit : (b : ℕ) → Digit b → isDigit b ≡ true
+pub is-digit : (b : ℕ) → Digit b → isDigit b ≡ true
 unfolding isDigit
 is-digit b d = both-true (leb 48 b) (leb b 57) (le-leb _ _ (d .low)) (le-leb _ _ (d .high))
 

@@ -11,11 +11,11 @@ use lib.Arith.{lt-of-le-ne}
 use lib.ListN.{length, getD, take, drop, set, drop-of-length-le, length-set}
 use lib.Seq.{drop-cons, drop-set-lt, drop-drop, take-suc-set, length-take-le}
 use borrow.Author.Tests.{eq-eqb, ne-eqb, le-leb, lt-leb}
-use Rattle.script_text.specs.Scan.{isDigit, extends, Scan, failed, found, scanOn, scan, ScanOnIs, NumberAt, ReadIs}
+use Rattle.script_text.specs.Scan.{isDigit, extends, Scan, failed, found, scanOn, scan, NoDigit, Near, ScanOnIs, NumberAt, ReadIs}
 use Rattle.script_text.specs.Numeral.{Says}
 use Rattle.script_text.specs.declared.read.Number.{Number}
 use Rattle.script_text.proofs.Scanning.{Digit, digit, Extends, extending, scan-space, scan-more, scan-stop, scan-end}
-use Rattle.script_text.proofs.Scanning.{scan-digit, scan-other, scan-nothing, scan-leads}
+use Rattle.script_text.proofs.Scanning.{is-digit, scan-digit, scan-other, scan-nothing, scan-leads}
 use Rattle.script_text.proofs.Reading.{Reading, reading-none, reading-more, reading-last, reading-bad, reading-full}
 
 -- ---- tests
@@ -92,6 +92,58 @@ module _ (line : List ℕ) (at first v i : ℕ) (on : On line at first v i) wher
     within = omega arith;
   }
 
+  -- what goes on from place i goes on from place `at`
+  pub on-from : (r : Number) → ScanOnIs line i v r → ScanOnIs line at first r
+  on-from r s = record { is = on .same ∙ s .is; within = s .within }
+
+-- ---- after few digits
+
+-- the scan from place `at` on has come to place i, and its digits say v, which is not 0 and at most m
+pub record Few (line : List ℕ) (at first v i m : ℕ) : Type 0 where
+  pub on : On line at first v i
+  pub some : v ≢ 0
+  pub few : v ≤ m
+
+few-more : (line : List ℕ) (at first v i m : ℕ) → Few line at first v i m → m ≤ 99 → i < length line
+    → isDigit (getD line i 0) ≡ true → Few line at first (v * 10 + (getD line i 0 - 48)) (i + 1) (m * 10 + 9)
+few-more line at first v i m f small h e =
+    let d : Digit (getD line i 0) = digit (getD line i 0) e in
+    let fits : v * 10 + (getD line i 0 - 48) ≤ 4294967295 = omega (arith, d .high, f .few) in
+    record {
+      on = on-more line at first v i (f .on) h
+          (sym (extends-digit v (getD line i 0) (f .some) e) ∙ le-leb (v * 10 + (getD line i 0 - 48)) 4294967295 fits);
+      some = λ z. f .some (omega (arith, z));
+      few = omega (arith, d .high, f .few);
+    }
+
+pub near-second : (line : List ℕ) (at first : ℕ) → Near line at first → isDigit (getD line at 0) ≡ true
+    → Few line at first (first * 10 + (getD line at 0 - 48)) (at + 1) 99
+near-second line at first n e =
+    few-more line at first first at 9
+    (record {
+      on = on-none line at first (omega (arith, n .within)) (omega (arith, n .digit));
+      some = n .some;
+      few = n .digit;
+    })
+    (omega arith) (omega (arith, n .within)) e
+
+pub near-third : (line : List ℕ) (at first v : ℕ) → Near line at first → Few line at first v (at + 1) 99
+    → isDigit (getD line (at + 1) 0) ≡ true → Few line at first (v * 10 + (getD line (at + 1) 0 - 48)) (at + 2) 999
+near-third line at first v n f e =
+    subst (λ (i : ℕ). Few line at first (v * 10 + (getD line (at + 1) 0 - 48)) i 999) (omega arith)
+    (few-more line at first v (at + 1) 99 f (omega arith) (omega (arith, n .within)) e)
+
+-- where no digit stands
+pub no-digit-space : (line : List ℕ) (at v : ℕ) → NoDigit line at v → getD line at 0 ≡ 32
+    → ScanOnIs line at v (record { ok = true; value = v; end = at })
+no-digit-space line at v n e = on-space line at v v at (on-none line at v (omega (arith, n .within)) (n .fits)) (n .within) e
+
+pub no-digit-stop : (line : List ℕ) (at v : ℕ) → NoDigit line at v → getD line at 0 ≢ 32
+    → ScanOnIs line at v (record { ok = false; value = 0; end = length line })
+no-digit-stop line at v n e =
+    on-stop line at v v at (on-none line at v (omega (arith, n .within)) (n .fits)) (n .within) e
+    (sym (extends-other v (getD line at 0) (n .some) (n .other)))
+
 -- ---- after a first digit 0
 
 -- the scan starts there
@@ -128,6 +180,11 @@ number-zero line at r h e on =
     number-digit line at r h (ap isDigit e)
     (subst (λ (v : ℕ). ScanOnIs line (at + 1) v r) (sym (ap (λ (b : ℕ). b - 48) e)) on)
 
+pub number-near : (line : List ℕ) (at : ℕ) (r : Number) → at < length line → 49 ≤ getD line at 0 → getD line at 0 ≤ 57
+    → ScanOnIs line (at + 1) (getD line at 0 - 48) r → NumberAt line at r
+number-near line at r h low high on =
+    number-digit line at r h (is-digit (getD line at 0) (record { low = omega (arith, low); high = high })) on
+
 -- nothing is found
 none : (line : List ℕ) (at : ℕ) → scan (drop at line) ≡ failed
     → NumberAt line at (record { ok = false; value = 0; end = length line })
@@ -152,10 +209,11 @@ pub record Filling (line out₀ : List ℕ) (out : List ℕ) (at count : ℕ) : 
   pub reading : Reading line (drop at line) (take count out)
   pub size : length out ≡ length out₀
   pub within : count ≤ length out₀
+  pub inside : at ≤ length line
   pub kept : drop count out ≡ drop count out₀
 
 pub filling-none : (line out : List ℕ) → Filling line out out 0 0
-filling-none line out = record { reading = reading-none line; size = refl; within = omega arith; kept = refl }
+filling-none line out = record { reading = reading-none line; size = refl; within = omega arith; inside = omega arith; kept = refl }
 
 kept-more : (out₀ out : List ℕ) (count v : ℕ) → drop count out ≡ drop count out₀
     → drop (count + 1) (set out count v) ≡ drop (count + 1) out₀
@@ -197,6 +255,7 @@ module _ (line out₀ out : List ℕ) (at count : ℕ) (f : Filling line out₀ 
             (scans ∙ ap (λ (b : ℕ). found (n .value) (b ∷ drop (n .end + 1) line)) space));
         size = length-set out count (n .value) ∙ f .size;
         within = omega (arith, f .size);
+        inside = omega (arith, inside);
         kept = kept-more out₀ out count (n .value) (f .kept);
       }
 

@@ -1,10 +1,11 @@
 -- How a line is read, exactly: byte after byte, to a space or the line's end.
-use Prim.Native.Nat.{ℕ, _+_, _-_, _*_, _≤_}
+use Prim.Native.Nat.{ℕ, _+_, _-_, _*_, _≤_, _<_}
 use mathlib.Core.Path.{_≡_}
+use mathlib.Core.Logic.{_≢_}
 use mathlib.Core.Bool.{Bool, true, false, not, _&&_}
 use mathlib.Core.List.{List, [], _∷_}
 use lib.Dec.{eqb, leb}
-use lib.ListN.{length, take, drop}
+use lib.ListN.{length, getD, take, drop}
 use Rattle.script_text.specs.Numeral.{Says}
 use Rattle.script_text.specs.Lines.{longest}
 use Rattle.script_text.specs.declared.read.Number.{Number}
@@ -52,6 +53,19 @@ scanOf line r = record { ok = r .ok; value = r .value; rest = drop (r .end) line
 pub record ScanOnIs (line : List ℕ) (at v : ℕ) (r : Number) : Type 0 where
   pub is : scanOn v (drop at line) ≡ scanOf line r
   pub within : r .end ≤ length line
+
+-- no digit stands at place `at`, after digits that say v, which is not 0
+pub record NoDigit (line : List ℕ) (at v : ℕ) : Type 0 where
+  pub within : at < length line
+  pub other : isDigit (getD line at 0) ≡ false
+  pub some : v ≢ 0
+  pub fits : v ≤ 4294967295
+
+-- three bytes stand from place `at` on, after a digit that says v, which is not 0
+pub record Near (line : List ℕ) (at v : ℕ) : Type 0 where
+  pub within : at + 3 ≤ length line
+  pub some : v ≢ 0
+  pub digit : v ≤ 9
 
 -- the number at place `at` of a line, and the place after it
 pub record NumberAt (line : List ℕ) (at : ℕ) (r : Number) : Type 0 where

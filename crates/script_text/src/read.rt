@@ -4,7 +4,7 @@ ghost use mathlib.Core.Path.{_≡_};
 ghost use mathlib.Core.Logic.{_≢_};
 ghost use lib.ListN.{length};
 ghost use Rattle.script_text.specs.Lines.{mostNumbers};
-ghost use Rattle.script_text.specs.Scan.{ScanOnIs, NumberAt, ReadIs, LineIs};
+ghost use Rattle.script_text.specs.Scan.{NoDigit, Near, ScanOnIs, NumberAt, ReadIs, LineIs};
 ghost use Rattle.script_text.specs.Scan.{isDigit, extends as Scan·extends};
 use crate::lines::LONGEST;
 
@@ -117,6 +117,67 @@ fn number_at(line: &[u8], at: usize) -> Number
     }
 }
 
+// What goes on from place `end`, where no digit stands, after digits that say `value`, which is not 0.
+fn no_digit_on(line: &[u8], end: usize, value: u64) -> Number
+    requires { ⌜ NoDigit (now line) end value ⌝ }
+    ensures { λ r. ⌜ ScanOnIs (now (line .entry)) end value r ⌝ }
+{
+    if line[end] == 32 {
+        return Number {
+            ok: true,
+            value: value as u32,
+            end,
+        };
+    }
+    Number {
+        ok: false,
+        value: 0,
+        end: line.len(),
+    }
+}
+
+// What goes on from place `at`, after a first digit that is not 0. Three bytes follow: two digits of them need no test of
+// the line's end, and make no number that is too large.
+fn near_on(line: &[u8], at: usize, first: u64) -> Number
+    requires { ⌜ Near (now line) at first ⌝ }
+    ensures { λ r. ⌜ ScanOnIs (now (line .entry)) at first r ⌝ }
+{
+    let b = line[at];
+    if is_digit(b) {
+        let second = first * 10 + (b as u64 - 48);
+        let c = line[at + 1];
+        if is_digit(c) {
+            let third = second * 10 + (c as u64 - 48);
+            if line[at + 2] == 32 {
+                return Number {
+                    ok: true,
+                    value: third as u32,
+                    end: at + 2,
+                };
+            }
+            return digits_on(line, at + 2, third);
+        }
+        return no_digit_on(line, at + 1, second);
+    }
+    no_digit_on(line, at, first)
+}
+
+// The number at place `at`, by the short way where the line's end is not near.
+fn next_at(line: &[u8], at: usize) -> Number
+    requires { ⌜ at ≤ length (now line) ⌝ }
+    ensures { λ r. ⌜ NumberAt (now (line .entry)) at r ⌝ }
+{
+    if at + 4 <= line.len() {
+        let b = line[at];
+        if 49 <= b {
+            if b <= 57 {
+                return near_on(line, at + 1, b as u64 - 48);
+            }
+        }
+    }
+    number_at(line, at)
+}
+
 // The numbers of a line, into the front of `out`.
 pub fn read_numbers(line: &[u8], out: &mut [u32]) -> Read
     ensures { λ r. ⌜ ReadIs (now (line .entry)) (now (out .entry)) (now (out .exit)) r ⌝ }
@@ -124,7 +185,7 @@ pub fn read_numbers(line: &[u8], out: &mut [u32]) -> Read
     let mut at = 0;
     let mut count = 0;
     while count < out.len() {
-        let n = number_at(line, at);
+        let n = next_at(line, at);
         if n.ok {
             let end = n.end;
             out[count] = n.value;

@@ -17,8 +17,8 @@ abbrev μ-loop : tie.MeasureT-loop
 loop-holds : tie.Need-loop-holds Inv-loop μ-loop
 loop-holds c = filling-none _ _
 
-number-at-requires : tie.Need-number-at-requires Inv-loop μ-loop
-number-at-requires c κs = tt
+next-at-requires : tie.Need-next-at-requires Inv-loop μ-loop
+next-at-requires c κs = c .before .loop .inv .inside
 
 mul-out : tie.Need-mul-out Inv-loop μ-loop
 mul-out c = search needs
@@ -34,25 +34,25 @@ same-length c = simp length-set (c .before .before .before .before .loop .inv .s
 
 returns : tie.Need-returns Inv-loop μ-loop
 returns c =
-    filling-last _ _ _ _ _ (c .before .before .before .before .loop .inv) _ (c .before .before .number-at .ensures)
+    filling-last _ _ _ _ _ (c .before .before .before .before .loop .inv) _ (c .before .before .next-at .ensures)
     (c .before .if1 .taken) (c .before .before .before .loop-test .taken) (c .if2 .taken)
 
 add-at : tie.Need-add-at Inv-loop μ-loop
-add-at c = omega (arith, c .before .before .number-at .ensures .within)
+add-at c = omega (arith, c .before .before .next-at .ensures .within)
 
 loop-less : tie.Need-loop-less Inv-loop μ-loop
 loop-less c = omega (arith, c .before .before .before .before .loop .inv .size)
 
 loop-again : tie.Need-loop-again Inv-loop μ-loop
 loop-again c =
-    filling-more _ _ _ _ _ (c .before .before .before .before .loop .inv) _ (c .before .before .number-at .ensures)
+    filling-more _ _ _ _ _ (c .before .before .before .before .loop .inv) _ (c .before .before .next-at .ensures)
     (c .before .if1 .taken) (c .before .before .before .loop-test .taken) (c .if2 .left)
 
 same-length-2 : tie.Need-same-length-2 Inv-loop μ-loop
 same-length-2 c = c .before .before .before .loop .inv .size
 
 returns-2 : tie.Need-returns-2 Inv-loop μ-loop
-returns-2 c = filling-bad _ _ _ _ _ (c .before .before .before .loop .inv) _ (c .before .number-at .ensures) (c .if1 .left)
+returns-2 c = filling-bad _ _ _ _ _ (c .before .before .before .loop .inv) _ (c .before .next-at .ensures) (c .if1 .left)
 
 same-length-3 : tie.Need-same-length-3 Inv-loop μ-loop
 same-length-3 c = c .before .loop .inv .size
@@ -67,7 +67,7 @@ read-numbers-spec =
     Inv-loop
     μ-loop
     loop-holds
-    number-at-requires
+    next-at-requires
     mul-out
     slice-write-out
     add-count
