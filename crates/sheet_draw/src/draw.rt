@@ -8,6 +8,10 @@ use crate::output::put_indent;
 use crate::output::put_number;
 use crate::output::put_two;
 use crate::rights::put_rights;
+use values::limit::MAX_OBJECTS;
+
+// The last slot of an object.
+const LAST_OBJECT: u16 = MAX_OBJECTS as u16;
 
 // Where a walk through a tree stands.
 struct Walk {
@@ -181,13 +185,13 @@ fn put_object(
     put_tree(links, words, out, d, master)
 }
 
-// All objects, by slot.
+// All objects, from the last slot down, as a fresh store hands them out.
 pub fn put_objects(bytes: &[u8], links: &[u16], words: &[u32], out: &mut [u8], at: usize) -> usize {
     let mut p = at;
-    let mut object: u16 = 1;
-    while object <= 64 {
+    let mut object: u16 = LAST_OBJECT;
+    while 0 < object {
         p = put_object(bytes, links, words, out, p, object);
-        object += 1;
+        object -= 1;
     }
     p
 }

@@ -8,6 +8,10 @@ use crate::output::put;
 use crate::output::put_byte;
 use crate::output::put_long;
 use crate::output::put_two;
+use values::limit::MAX_CAPS;
+
+// The last slot of a capability.
+const LAST_CAP: u16 = MAX_CAPS as u16;
 
 // How many cells what is noted takes: five rows of 513.
 pub const NOTED: usize = 2565;
@@ -37,7 +41,7 @@ fn note_cap(bytes: &[u8], links: &[u16], words: &[u32], before: &mut [u32], cap:
 
 pub fn note_all(bytes: &[u8], links: &[u16], words: &[u32], before: &mut [u32]) {
     let mut cap: u16 = 1;
-    while cap <= 512 {
+    while cap <= LAST_CAP {
         note_cap(bytes, links, words, before, cap);
         cap += 1;
     }
@@ -60,7 +64,7 @@ fn has_ended(links: &[u16], words: &[u32], before: &[u32], cap: u16) -> bool {
 // A done delete or rename ends one capability at least, and a refused one none.
 fn any_ended(links: &[u16], words: &[u32], before: &[u32]) -> bool {
     let mut cap: u16 = 1;
-    while cap <= 512 {
+    while cap <= LAST_CAP {
         if has_ended(links, words, before, cap) {
             return true;
         }
@@ -96,13 +100,13 @@ fn put_if_ended(
     at
 }
 
-// All that have ended, by slot.
+// All that have ended, from the last slot down, as a fresh store hands them out.
 fn put_all_ended(links: &[u16], words: &[u32], before: &[u32], out: &mut [u8], at: usize) -> usize {
     let mut p = at;
-    let mut cap: u16 = 1;
-    while cap <= 512 {
+    let mut cap: u16 = LAST_CAP;
+    while 0 < cap {
         p = put_if_ended(links, words, before, out, p, cap);
-        cap += 1;
+        cap -= 1;
     }
     p
 }

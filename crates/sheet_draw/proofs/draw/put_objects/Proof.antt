@@ -1,5 +1,4 @@
--- `put_objects` counts to the last slot.
-use Prim.Native.Nat.{_-_}
+-- `put_objects` counts down from the last slot.
 use mathlib.Core.Path.{_≡_}
 use lib.ListN.{length}
 use borrow.Author.Needs.{needs}
@@ -10,7 +9,7 @@ abbrev Inv-loop : tie.InvT-loop
 Inv-loop bytes links words out₀ at p₀ object₀ out p object = length out ≡ length out₀
 
 abbrev μ-loop : tie.MeasureT-loop
-μ-loop bytes links words out₀ at p₀ object₀ out p object = 65 - object
+μ-loop bytes links words out₀ at p₀ object₀ out p object = object
 
 loop-holds : tie.Need-loop-holds Inv-loop μ-loop
 loop-holds c = search needs
@@ -18,8 +17,8 @@ loop-holds c = search needs
 put-object-requires : tie.Need-put-object-requires Inv-loop μ-loop
 put-object-requires c κs = search needs
 
-add-object : tie.Need-add-object Inv-loop μ-loop
-add-object c = search needs
+sub-object : tie.Need-sub-object Inv-loop μ-loop
+sub-object c = search needs
 
 loop-less : tie.Need-loop-less Inv-loop μ-loop
 loop-less c = search needs
@@ -41,7 +40,7 @@ put-objects-spec =
     μ-loop
     loop-holds
     put-object-requires
-    add-object
+    sub-object
     loop-less
     loop-again
     same-length

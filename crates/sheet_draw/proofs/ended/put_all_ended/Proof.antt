@@ -1,5 +1,4 @@
--- `put_all_ended` counts to the last slot.
-use Prim.Native.Nat.{_-_}
+-- `put_all_ended` counts down from the last slot.
 use mathlib.Core.Path.{_≡_}
 use lib.ListN.{length}
 use borrow.Author.Needs.{needs}
@@ -10,7 +9,7 @@ abbrev Inv-loop : tie.InvT-loop
 Inv-loop links words before out₀ at p₀ cap₀ out p cap = length out ≡ length out₀
 
 abbrev μ-loop : tie.MeasureT-loop
-μ-loop links words before out₀ at p₀ cap₀ out p cap = 513 - cap
+μ-loop links words before out₀ at p₀ cap₀ out p cap = cap
 
 loop-holds : tie.Need-loop-holds Inv-loop μ-loop
 loop-holds c = search needs
@@ -18,8 +17,8 @@ loop-holds c = search needs
 put-if-ended-requires : tie.Need-put-if-ended-requires Inv-loop μ-loop
 put-if-ended-requires c κs = search needs
 
-add-cap : tie.Need-add-cap Inv-loop μ-loop
-add-cap c = search needs
+sub-cap : tie.Need-sub-cap Inv-loop μ-loop
+sub-cap c = search needs
 
 loop-less : tie.Need-loop-less Inv-loop μ-loop
 loop-less c = search needs
@@ -41,7 +40,7 @@ put-all-ended-spec =
     μ-loop
     loop-holds
     put-if-ended-requires
-    add-cap
+    sub-cap
     loop-less
     loop-again
     same-length
