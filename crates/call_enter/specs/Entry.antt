@@ -46,7 +46,7 @@ stoppedBytes n b me = elim (eqb n Code.cannotPay) [ true ↦ terminatedBytes b m
 
 -- n is what 2, 3 and 4 come to, me the caller's slot
 unfoldable pub entered : ℕ → ℕ → List ℕ → List ℕ → List ℕ → Call → Entry
-entered n me b l w c = elim (eqb n 0) [
+entered n me b l w c = elim (eqb n Code.done) [
   | true ↦ shown b l (paidWords w me (feeOf (c .number))) me (c .presented) (op (c .number))
   | false ↦ refused n (stoppedBytes n b me) w
 ]

@@ -15,17 +15,17 @@ use Rattle.call_steps.specs.Tests.{ObjectSlot}
 use Rattle.call_steps.specs.Run.{over, Target}
 use Rattle.call_steps.proofs.Meeting.{stopped, goes-on}
 use Rattle.call_mail.specs.Copies.{copied, Copied}
-use Rattle.call_mail.specs.Runs.{messageSlot, textFrom, sendStop, placedWords, Placed, sendRun, Moved}
+use Rattle.call_mail.specs.Runs.{messageSlot, textFrom, sendStop, placedWords, MessagePlaced, sendRun, Moved}
 use Rattle.call_mail.proofs.Copying.{length-copied}
 
 -- ---- a message placed
 
 pub placed-is : {b b₁ text : List ℕ} {i : ℕ} → Copied (length text) text 0 b (textFrom i) b₁ → (w : List ℕ) (sum : ℕ)
-    → Placed b w text i sum (set b₁ (Layout.LENGTH + i) (length text)) (placedWords w i sum)
+    → MessagePlaced b w text i sum (set b₁ (Layout.LENGTH + i) (length text)) (placedWords w i sum)
 placed-is {text = text} {i = i} c w sum =
     record { bytes = ap (λ b. set b (Layout.LENGTH + i) (length text)) (c .is); words = refl }
 
-module _ {b w text : List ℕ} {i sum : ℕ} {b′ w′ : List ℕ} (P : Placed b w text i sum b′ w′) where
+module _ {b w text : List ℕ} {i sum : ℕ} {b′ w′ : List ℕ} (P : MessagePlaced b w text i sum b′ w′) where
   pub placed-bytes-length : length b′ ≡ length b
   placed-bytes-length =
       ap length (P .bytes)
@@ -90,7 +90,7 @@ module _ {b l : List ℕ} {me k o : ℕ} {p : Bool} (S : Sending b l me k o p) w
       send-met n f q z e ne = stopped b l w _ n (send-stop f q z ∙ e) ne
 
       pub send-done : {left : ℕ} {b′ w′ : List ℕ}
-          → Placed b (set w (Layout.CASH + me) left) text (messageSlot o (getD b (Layout.COUNT + o) 0)) sum b′ w′
+          → MessagePlaced b (set w (Layout.CASH + me) left) text (messageSlot o (getD b (Layout.COUNT + o) 0)) sum b′ w′
           → left ≡ getD w (Layout.CASH + me) 0 - sum → p ≡ true
           → ltb (getD w (Layout.CASH + me) 0) sum ≡ false → leb 4 (getD b (Layout.COUNT + o) 0) ≡ false
           → over 0 (set (set b′ (Layout.COUNT + o) (getD b (Layout.COUNT + o) 0 + 1)) (Layout.WAITING + o) 0) l w′

@@ -46,7 +46,7 @@ abbrev pub placedWords : List ℕ → ℕ → ℕ → List ℕ
 placedWords w i sum = set w (Layout.SUM + i) sum
 
 -- that is what b′ and w′ are
-pub record Placed (b w text : List ℕ) (i sum : ℕ) (b′ w′ : List ℕ) : Type 0 where
+pub record MessagePlaced (b w text : List ℕ) (i sum : ℕ) (b′ w′ : List ℕ) : Type 0 where
   pub bytes : b′ ≡ placedBytes b i text
   pub words : w′ ≡ placedWords w i sum
 
@@ -61,7 +61,7 @@ abbrev pub sentWords : List ℕ → ℕ → ℕ → ℕ → List ℕ
 sentWords w me i sum = placedWords (set w (Layout.CASH + me) (cashOf w me - sum)) i sum
 
 unfoldable pub sendRun : List ℕ → List ℕ → List ℕ → List ℕ → ℕ → ℕ → ℕ → Ran
-sendRun b l w text me k sum = settled (sendStop b l w me k sum) b l w (over 0 (sentBytes b (ownerOf l k) text) l
+sendRun b l w text me k sum = settled (sendStop b l w me k sum) b l w (over Code.done (sentBytes b (ownerOf l k) text) l
     (sentWords w me (messageSlot (ownerOf l k) (countOf b (ownerOf l k))) sum))
 
 -- ---- receive: 15 the box is empty
@@ -76,15 +76,19 @@ oldest me = me * Limit.box
 abbrev pub oldestBytes : List ℕ → ℕ → List ℕ
 oldestBytes b me = take (lengthOf b (oldest me)) (drop (oldest me * Limit.message) (textIn b))
 
--- the three messages after slot i move down one place
+-- how many messages are after the oldest
+abbrev pub following : ℕ
+following = 3
+
+-- those after slot i move down one place
 abbrev pub movedTexts : List ℕ → ℕ → List ℕ
-movedTexts b i = copied 48 b (textFrom i + Limit.message) b (textFrom i)
+movedTexts b i = copied (following * Limit.message) b (textFrom i + Limit.message) b (textFrom i)
 
 abbrev pub movedBytes : List ℕ → ℕ → List ℕ
-movedBytes b i = copied 3 (movedTexts b i) (Layout.LENGTH + i + 1) (movedTexts b i) (Layout.LENGTH + i)
+movedBytes b i = copied following (movedTexts b i) (Layout.LENGTH + i + 1) (movedTexts b i) (Layout.LENGTH + i)
 
 abbrev pub movedWords : List ℕ → ℕ → List ℕ
-movedWords w i = copied 3 w (Layout.SUM + i + 1) w (Layout.SUM + i)
+movedWords w i = copied following w (Layout.SUM + i + 1) w (Layout.SUM + i)
 
 -- that is what b′ and w′ are
 pub record Moved (b w : List ℕ) (i : ℕ) (b′ w′ : List ℕ) : Type 0 where
@@ -117,7 +121,7 @@ answered code sum bytes b l w = record {
 
 unfoldable pub receiveRun : List ℕ → List ℕ → List ℕ → ℕ → Ran
 receiveRun b l w me = settled (receiveStop b me) b l w
-    (answered 0 (sumOf w (oldest me)) (oldestBytes b me) (receivedBytes b me) l (receivedWords w me))
+    (answered Code.done (sumOf w (oldest me)) (oldestBytes b me) (receivedBytes b me) l (receivedWords w me))
 
 -- the run, by what the code gives back: the slices, and `count` bytes at the buffer's front
 pub record Receives (b w buffer : List ℕ) (me code sum count : ℕ) (b′ w′ buffer′ : List ℕ) : Type 0 where
@@ -131,7 +135,7 @@ pub record PlaceAsks (b w text : List ℕ) (i : ℕ) : Type 0 where
   pub bytes : length b ≡ Layout.BYTES
   pub words : length w ≡ Layout.WORDS
   pub short : length text ≤ Limit.message
-  pub high : i ≤ 259
+  pub high : i ≤ Layout.«MESSAGE_SLOTS»
 
 pub record SendAsks (b l w text : List ℕ) (me k : ℕ) : Type 0 where
   pub sized : Sized b l w
@@ -142,7 +146,7 @@ pub record SendAsks (b l w text : List ℕ) (me k : ℕ) : Type 0 where
 pub record MoveAsks (b w : List ℕ) (i : ℕ) : Type 0 where
   pub bytes : length b ≡ Layout.BYTES
   pub words : length w ≡ Layout.WORDS
-  pub high : i ≤ 256
+  pub high : i ≤ Limit.objects * Limit.box
 
 pub record ReceiveAsks (b w buffer : List ℕ) (me : ℕ) : Type 0 where
   pub bytes : length b ≡ Layout.BYTES

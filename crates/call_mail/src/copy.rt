@@ -4,7 +4,7 @@ ghost use lib.ListN.{length};
 ghost use Rattle.call_mail.specs.Copies.{Copied};
 
 // n of them, from place `from` on, to place `to` on.
-pub fn copy(src: &[u8], from: usize, dst: &mut [u8], to: usize, n: usize)
+pub(crate) fn copy(src: &[u8], from: usize, dst: &mut [u8], to: usize, n: usize)
     requires { ⌜ from + n ≤ length (now src) ⌝ ∗ ⌜ to + n ≤ length (now dst) ⌝ }
     ensures { λ _. ⌜ Copied n (now (src .entry)) from (now (dst .entry)) to (now (dst .exit)) ⌝ }
 {
@@ -16,7 +16,7 @@ pub fn copy(src: &[u8], from: usize, dst: &mut [u8], to: usize, n: usize)
 }
 
 // n of them, `by` places down, to place `to` on.
-pub fn shift(bytes: &mut [u8], to: usize, by: usize, n: usize)
+pub(crate) fn shift(bytes: &mut [u8], to: usize, by: usize, n: usize)
     requires { ⌜ to + by + n ≤ length (now bytes) ⌝ }
     ensures { λ _. ⌜ Copied n (now (bytes .entry)) (to + by) (now (bytes .entry)) to (now (bytes .exit)) ⌝ }
 {
@@ -28,7 +28,7 @@ pub fn shift(bytes: &mut [u8], to: usize, by: usize, n: usize)
 }
 
 // The same of words.
-pub fn shift_words(words: &mut [u32], to: usize, by: usize, n: usize)
+pub(crate) fn shift_words(words: &mut [u32], to: usize, by: usize, n: usize)
     requires { ⌜ to + by + n ≤ length (now words) ⌝ }
     ensures { λ _. ⌜ Copied n (now (words .entry)) (to + by) (now (words .entry)) to (now (words .exit)) ⌝ }
 {

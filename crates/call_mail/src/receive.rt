@@ -9,6 +9,16 @@ use layout::COUNT;
 use layout::LENGTH;
 use layout::SUM;
 use layout::TEXT;
+use values::cash::Cash;
+use values::code::BOX_EMPTY;
+use values::code::DONE;
+use values::limit::BOX_SLOTS;
+use values::limit::MAX_MESSAGE;
+
+// The messages after the oldest, and the bytes of their texts.
+const FOLLOWING: usize = BOX_SLOTS - 1;
+
+const FOLLOWING_TEXTS: usize = FOLLOWING * MAX_MESSAGE;
 
 pub struct Received {
     pub code: u32,
@@ -21,9 +31,9 @@ fn move_down(bytes: &mut [u8], words: &mut [u32], i: usize)
     requires { ⌜ MoveAsks (now bytes) (now words) i ⌝ }
     ensures { λ _. ⌜ Moved (now (bytes .entry)) (now (words .entry)) i (now (bytes .exit)) (now (words .exit)) ⌝ }
 {
-    shift(bytes, TEXT + i * 16, 16, 48);
-    shift(bytes, LENGTH + i, 1, 3);
-    shift_words(words, SUM + i, 1, 3);
+    shift(bytes, TEXT + i * MAX_MESSAGE, MAX_MESSAGE, FOLLOWING_TEXTS);
+    shift(bytes, LENGTH + i, 1, FOLLOWING);
+    shift_words(words, SUM + i, 1, FOLLOWING);
 }
 
 // The oldest message of the caller, in slot me: its bytes to the buffer's front, its sum to the caller's cash.
@@ -35,20 +45,21 @@ pub fn receive(bytes: &mut [u8], words: &mut [u32], buffer: &mut [u8], me: usize
     let count = bytes[COUNT + me];
     if count == 0 {
         return Received {
-            code: 15,
+            code: BOX_EMPTY,
             sum: 0,
             count: 0,
         };
     }
-    let i = me * 4;
+    let i = me * BOX_SLOTS;
     let length = bytes[LENGTH + i] as usize;
     let sum = words[SUM + i];
-    copy(bytes, TEXT + i * 16, buffer, 0, length);
-    words[CASH + me] = words[CASH + me] + sum;
+    copy(bytes, TEXT + i * MAX_MESSAGE, buffer, 0, length);
+    let cash = Cash(words[CASH + me]);
+    words[CASH + me] = cash.0 + sum;
     move_down(bytes, words, i);
     bytes[COUNT + me] = count - 1;
     Received {
-        code: 0,
+        code: DONE,
         sum: sum,
         count: length,
     }

@@ -2,7 +2,7 @@
 // target's waiting mark clears."
 ghost use mathlib.Core.Path.{_≡_};
 ghost use Rattle.call_steps.specs.Run.{over};
-ghost use Rattle.call_mail.specs.Runs.{PlaceAsks, SendAsks, Placed, sendRun};
+ghost use Rattle.call_mail.specs.Runs.{PlaceAsks, SendAsks, MessagePlaced, sendRun};
 use crate::copy::copy;
 use call_steps::objects::is_process;
 use call_steps::target::target;
@@ -13,14 +13,21 @@ use layout::SUM;
 use layout::TEXT;
 use layout::WAITING;
 use values::cash::Cash;
+use values::code::BOX_FULL;
+use values::code::DONE;
+use values::code::NOT_PROCESS;
+use values::code::TOO_LITTLE;
+use values::limit::BOX_SLOTS;
+use values::limit::MAX_MESSAGE;
+use values::limit::MAX_MESSAGES;
 
 // The message in slot i: its text, its length and its sum.
 fn place(bytes: &mut [u8], words: &mut [u32], text: &[u8], i: usize, sum: u32)
     requires { ⌜ PlaceAsks (now bytes) (now words) (now text) i ⌝ }
-    ensures { λ _. ⌜ Placed (now (bytes .entry)) (now (words .entry)) (now (text .entry)) i sum
+    ensures { λ _. ⌜ MessagePlaced (now (bytes .entry)) (now (words .entry)) (now (text .entry)) i sum
         (now (bytes .exit)) (now (words .exit)) ⌝ }
 {
-    copy(text, 0, bytes, TEXT + i * 16, text.len());
+    copy(text, 0, bytes, TEXT + i * MAX_MESSAGE, text.len());
     bytes[LENGTH + i] = text.len() as u8;
     words[SUM + i] = sum;
 }
@@ -42,18 +49,18 @@ pub fn send(
     let o = target(links, k);
     if is_process(bytes, links, o) {
         if Cash(words[CASH + me]).below(sum) {
-            return 9;
+            return TOO_LITTLE;
         }
         let count = bytes[COUNT + o];
-        if 4 <= count {
-            return 14;
+        if MAX_MESSAGES <= count {
+            return BOX_FULL;
         }
         let left = Cash(words[CASH + me]).less(sum);
         words[CASH + me] = left.0;
-        place(bytes, words, text, o * 4 + count as usize, sum);
+        place(bytes, words, text, o * BOX_SLOTS + count as usize, sum);
         bytes[COUNT + o] = count + 1;
         bytes[WAITING + o] = 0;
-        return 0;
+        return DONE;
     }
-    8
+    NOT_PROCESS
 }

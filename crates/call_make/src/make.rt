@@ -1,28 +1,20 @@
-// "make_obj: 12 the serial is taken on that volume; 13 64 objects or 512 capabilities live, or too few free blocks. Its
-// master has the whole window, moneyword 0 and the rights given."
+// What a new object is made of: its blocks, its record and its master. "Its master has the whole window, moneyword 0 and
+// the rights given."
 ghost use Rattle.values.specs.Words.{passwordOf};
 ghost use Rattle.call_steps.specs.Request.{nameOf};
-ghost use Rattle.call_steps.specs.Replies.{Replies};
 ghost use Rattle.call_make.specs.Runs.{MasterAsks, IsMaster, HoldAsks, Holds, RecordAsks, Records, PlaceAsks};
-ghost use Rattle.call_make.specs.Runs.{Places, MakeAsks, makeRun};
+ghost use Rattle.call_make.specs.Runs.{Places};
 use crate::record::record_bytes;
 use crate::record::record_links;
 use crate::record::record_words;
-use crate::space::no_space;
 use call_blocks::clear::clear;
 use call_blocks::take::take;
 use call_grow::cap::NewCap;
 use call_grow::cap::new_cap;
-use call_steps::objects::find_object;
 use call_steps::request::Name;
-use call_steps::request::Reply;
 use call_steps::request::Request;
-use call_steps::widen::slot;
 use layout::FREE_CAPS;
-use layout::FREE_OBJECTS;
 use values::blocks::blocks_of;
-use values::code::NO_SPACE;
-use values::code::TAKEN;
 use values::moneyword::Moneyword;
 use values::rights::Rights;
 use values::window::Window;
@@ -76,7 +68,7 @@ fn record(
 }
 
 // All of the object in slot o, and its master.
-fn place(bytes: &mut [u8], links: &mut [u16], words: &mut [u32], o: usize, req: Request)
+pub(crate) fn place(bytes: &mut [u8], links: &mut [u16], words: &mut [u32], o: usize, req: Request)
     requires { ⌜ PlaceAsks (now bytes) (now links) (now words) o (nameOf (req .name)) (req .size) (req .flag)
         (req .rights) ⌝ }
     ensures { λ _. ⌜ Places (now (bytes .entry)) (now (links .entry)) (now (words .entry)) o (nameOf (req .name))
@@ -90,25 +82,4 @@ fn place(bytes: &mut [u8], links: &mut [u16], words: &mut [u32], o: usize, req: 
     let drawn = req.drawn;
     let master = master_of(o, req.size, req.rights, drawn);
     new_cap(links, words, master, Moneyword(0));
-}
-
-// A new object with the name, the size and the flag of the request, and its master, which is handed back as drawn.
-pub fn make_obj(bytes: &mut [u8], links: &mut [u16], words: &mut [u32], req: Request) -> Reply
-    requires { ⌜ MakeAsks (now bytes) (now links) (now words) (nameOf (req .name)) (req .size) (req .flag)
-        (req .rights) ⌝ }
-    ensures { λ r. ⌜ Replies r (now (bytes .exit)) (now (links .exit)) (now (words .exit))
-        (makeRun (now (bytes .entry)) (now (links .entry)) (now (words .entry)) (nameOf (req .name)) (req .size)
-        (req .flag) (req .rights) (passwordOf (req .drawn))) ⌝ }
-{
-    let name = req.name;
-    if find_object(bytes, links, name) == 0 {
-        if no_space(links, blocks_of(req.size) as usize) {
-            return Reply::refused(NO_SPACE);
-        }
-        let o = slot(links[FREE_OBJECTS]);
-        place(bytes, links, words, o, req);
-        let drawn = req.drawn;
-        return Reply::hands_back(name, drawn);
-    }
-    Reply::refused(TAKEN)
 }

@@ -40,7 +40,7 @@ processStop b l k = first (Code.notProcess when not (isSet (flagOf b (ownerOf l 
 -- the mark is 1 for suspend, 0 for resume
 unfoldable pub suspendedRun : List ℕ → List ℕ → List ℕ → ℕ → ℕ → Ran
 suspendedRun b l w k mark =
-    settled (processStop b l k) b l w (over 0 (set b (Layout.SUSPENDED + ownerOf l k) mark) l w)
+    settled (processStop b l k) b l w (over Code.done (set b (Layout.SUSPENDED + ownerOf l k) mark) l w)
 
 abbrev pub lockedWords : List ℕ → ℕ → Lockword → List ℕ
 lockedWords w o x = set
@@ -48,12 +48,12 @@ lockedWords w o x = set
     (Layout.LOCK2 + o) (bitXor (lock2Of w o) (x .second))
 
 unfoldable pub lockRun : List ℕ → List ℕ → List ℕ → ℕ → Lockword → Ran
-lockRun b l w k x = settled (processStop b l k) b l w (over 0 b l (lockedWords w (ownerOf l k) x))
+lockRun b l w k x = settled (processStop b l k) b l w (over Code.done b l (lockedWords w (ownerOf l k) x))
 
 -- ---- wait
 
 unfoldable pub waitRun : List ℕ → List ℕ → List ℕ → ℕ → Ran
-waitRun b l w me = over 0 (set b (Layout.WAITING + me) 1) l w
+waitRun b l w me = over Code.done (set b (Layout.WAITING + me) 1) l w
 
 -- ---- revive: 8; 16 not terminated, or sum 0; 9 the caller's cash is below the sum
 
@@ -75,7 +75,7 @@ movedWords w me o sum = earnedWords (spentWords w me sum) o sum
 
 unfoldable pub reviveRun : List ℕ → List ℕ → List ℕ → ℕ → ℕ → ℕ → Ran
 reviveRun b l w me k sum = settled (reviveStop b l w me k sum) b l w
-    (over 0 (set b (Layout.TERMINATED + ownerOf l k) 0) l (movedWords w me (ownerOf l k) sum))
+    (over Code.done (set b (Layout.TERMINATED + ownerOf l k) 0) l (movedWords w me (ownerOf l k) sum))
 
 -- ---- cap_info: window length and moneyword
 

@@ -3,7 +3,7 @@ ghost use mathlib.Core.Path.{_≡_};
 ghost use Rattle.values.specs.Words.{lockwordOf};
 ghost use Rattle.call_steps.specs.Run.{over};
 ghost use Rattle.call_marks.specs.Runs.{LockAsks, lockRun};
-use crate::process::is_process;
+use crate::flag::has_flag;
 use call_steps::target::target;
 use layout::LOCK1;
 use layout::LOCK2;
@@ -18,7 +18,7 @@ pub fn apply_lock(bytes: &[u8], links: &[u16], words: &mut [u32], k: usize, lock
         ≡ lockRun (now (bytes .entry)) (now (links .entry)) (now (words .entry)) k (lockwordOf lock) ⌝ }
 {
     let o = target(links, k);
-    if is_process(bytes, o) {
+    if has_flag(bytes, o) {
         let first = words[LOCK1 + o];
         let second = words[LOCK2 + o];
         let x = xor_words([first, second], lock);

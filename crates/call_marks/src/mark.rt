@@ -7,7 +7,7 @@ ghost use Rattle.rules.specs.Limit as Limit;
 ghost use Rattle.layout.specs.Layout as Layout;
 ghost use Rattle.call_steps.specs.Run.{over};
 ghost use Rattle.call_marks.specs.Runs.{MarkAsks, suspendedRun, waitRun};
-use crate::process::is_process;
+use crate::flag::has_flag;
 use call_steps::target::target;
 use layout::SUSPENDED;
 use layout::WAITING;
@@ -21,7 +21,7 @@ fn set_suspended(bytes: &mut [u8], links: &[u16], k: usize, mark: u8) -> u32
         ≡ suspendedRun (now (bytes .entry)) (now (links .entry)) w k mark) ⌝ }
 {
     let o = target(links, k);
-    if is_process(bytes, o) {
+    if has_flag(bytes, o) {
         bytes[SUSPENDED + o] = mark;
         return DONE;
     }

@@ -6,7 +6,7 @@ ghost use Rattle.layout.specs.Layout as Layout;
 ghost use Rattle.call_steps.specs.Run.{over};
 ghost use Rattle.call_steps.specs.Tests.{ObjectSlot};
 ghost use Rattle.call_marks.specs.Runs.{Room, ReviveAsks, movedWords, reviveRun};
-use crate::process::is_process;
+use crate::flag::has_flag;
 use call_steps::target::target;
 use layout::CASH;
 use layout::TERMINATED;
@@ -41,7 +41,7 @@ pub fn revive(
         ≡ reviveRun (now (bytes .entry)) (now (links .entry)) (now (words .entry)) me k sum ⌝ }
 {
     let o = target(links, k);
-    if is_process(bytes, o) {
+    if has_flag(bytes, o) {
         if bytes[TERMINATED + o] == 0 {
             return NOT_REVIVABLE;
         }

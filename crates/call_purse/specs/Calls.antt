@@ -36,7 +36,7 @@ unfoldable pub withdrawn : List ℕ → List ℕ → ℕ → ℕ → ℕ → Lis
 withdrawn l w me k sum = set (climbMoved Out l w k sum) (Layout.CASH + me) (cashOf w me + sum)
 
 unfoldable pub withdrawRun : List ℕ → List ℕ → List ℕ → ℕ → ℕ → ℕ → Ran
-withdrawRun b l w me k sum = settled (withdrawCode l w k sum) b l w (over 0 b l (withdrawn l w me k sum))
+withdrawRun b l w me k sum = settled (withdrawCode l w k sum) b l w (over Code.done b l (withdrawn l w me k sum))
 
 -- ---- deposit
 
@@ -50,4 +50,4 @@ unfoldable pub deposited : List ℕ → List ℕ → ℕ → ℕ → ℕ → Lis
 deposited l w me k sum = set (climbMoved Into l w k sum) (Layout.CASH + me) (cashOf w me - sum)
 
 unfoldable pub depositRun : List ℕ → List ℕ → List ℕ → ℕ → ℕ → ℕ → Ran
-depositRun b l w me k sum = settled (depositCode l w me k sum) b l w (over 0 b l (deposited l w me k sum))
+depositRun b l w me k sum = settled (depositCode l w me k sum) b l w (over Code.done b l (deposited l w me k sum))

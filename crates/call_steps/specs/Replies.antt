@@ -2,6 +2,7 @@
 use Prim.Native.Nat.{ℕ}
 use mathlib.Core.Path.{_≡_}
 use mathlib.Core.List.{List, []}
+use Rattle.rules.specs.Code as Code
 use Rattle.rules.specs.Store.{Name, Password}
 use Rattle.rules.specs.Call.{Answer}
 use Rattle.call_steps.specs.declared.request.Reply.{Reply}
@@ -11,7 +12,7 @@ use Rattle.call_steps.specs.Run.{Ran}
 -- the answer of the rules' `handsBack`: a new capability
 unfoldable pub handed : Name → Password → Answer
 handed n p = record {
-  code = 0;
+  code = Code.done;
   capability = record { name = n; password = p };
   length = 0;
   moneyword = 0;

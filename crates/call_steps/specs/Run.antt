@@ -6,6 +6,8 @@ use mathlib.Core.Bool.{true, false}
 use mathlib.Core.List.{List, _++_}
 use lib.Dec.{eqb}
 use lib.ListN.{drop, length}
+use Rattle.rules.specs.Code as Code
+use Rattle.rules.specs.Limit as Limit
 use Rattle.rules.specs.Store.{State}
 use Rattle.rules.specs.Rights.{Op}
 use Rattle.rules.specs.Call.{Call, Answer, Outcome, Choice, code}
@@ -21,14 +23,14 @@ use Rattle.call_steps.specs.Tests.{ObjectSlot}
 -- slot me holds a living process
 pub record Process (b l : List ℕ) (me : ℕ) : Type 0 where
   pub low : 1 ≤ me
-  pub high : me ≤ 64
+  pub high : me ≤ Limit.objects
   pub live : masterOf l me ≢ 0
   pub flag : flagOf b me ≢ 0
 
 -- slot k holds a living capability
 pub record Held (l : List ℕ) (k : ℕ) : Type 0 where
   pub low : 1 ≤ k
-  pub high : k ≤ 512
+  pub high : k ≤ Limit.caps
   pub live : ownerOf l k ≢ 0
 
 -- slot k holds a living capability, and the slot that it names a living object
@@ -50,7 +52,7 @@ over n b l w = record { answer = code n; bytes = b; links = l; words = w }
 
 -- the refusal n, and nothing changed; where n is 0, the run x
 unfoldable pub settled : ℕ → List ℕ → List ℕ → List ℕ → Ran → Ran
-settled n b l w x = elim (eqb n 0) [ true ↦ x | false ↦ over n b l w ]
+settled n b l w x = elim (eqb n Code.done) [ true ↦ x | false ↦ over n b l w ]
 
 -- what it comes to in the rules
 abbrev pub outcome : Ran → Outcome
@@ -62,7 +64,7 @@ overlay bytes buffer = bytes ++ drop (length bytes) buffer
 
 -- the rules of a call's own part: its refusals after 6, and what it does when none is met
 unfoldable pub own : State → Call → ℕ → ℕ → Choice → Op → Outcome
-own s c me k h o = elim (eqb (first (refuses s c me k o)) 0) [
+own s c me k h o = elim (eqb (first (refuses s c me k o)) Code.done) [
   | true ↦ does s c me k h o
   | false ↦ record { answer = code (first (refuses s c me k o)); after = s }
 ]
@@ -71,7 +73,7 @@ own s c me k h o = elim (eqb (first (refuses s c me k o)) 0) [
 -- and cells are those of a well-formed store, and links of which P holds
 pub record MeetsWith (P : List ℕ → Type 0) (s : State) (c : Call) (me k : ℕ) (o : Op) (x : Ran) : Type 0 where
   pub choice : Choice
-  pub free : x .answer .code ≡ 0 → Open s c choice
+  pub free : x .answer .code ≡ Code.done → Open s c choice
   pub rules : own s c me k choice o ≡ outcome x
   pub sized : Sized (x .bytes) (x .links) (x .words)
   pub cells : Cells (x .bytes) (x .links)

@@ -5,6 +5,7 @@ use mathlib.Core.Bool.{Bool, not, _&&_, _||_}
 use mathlib.Core.List.{List}
 use lib.Dec.{eqb}
 use lib.ListN.{length, getD}
+use Rattle.rules.specs.Limit as Limit
 use Rattle.rules.specs.Slots.{find}
 use Rattle.rules.specs.Store.{Name, Password, State, sameName, samePassword}
 use Rattle.layout.specs.Layout as Layout
@@ -21,11 +22,11 @@ pub record CapSizes (l w : List ℕ) : Type 0 where
 
 pub record ObjectSlot (o : ℕ) : Type 0 where
   pub low : 1 ≤ o
-  pub high : o ≤ 64
+  pub high : o ≤ Limit.objects
 
 pub record CapSlot (i : ℕ) : Type 0 where
   pub low : 1 ≤ i
-  pub high : i ≤ 512
+  pub high : i ≤ Limit.caps
 
 -- slot o holds a living object of this name
 unfoldable pub named : State → Name → ℕ → Bool
@@ -42,6 +43,10 @@ held s o p i = eqb (s .cap i .object) o && samePassword (s .cap i .password) p
 -- slot i holds a capability of object o with this p1
 unfoldable pub taken : State → ℕ → ℕ → ℕ → Bool
 taken s o p1 i = eqb (s .cap i .object) o && eqb (s .cap i .password .p1) p1
+
+-- how many slots the code takes at once
+abbrev pub group : ℕ
+group = 16
 
 -- the cell of slot k in the row from off on is x, whether or not the slot holds a record
 unfoldable pub cellIs : ℕ → List ℕ → ℕ → ℕ → Bool

@@ -4,6 +4,7 @@ ghost use mathlib.Core.List.{List};
 ghost use mathlib.Core.Logic.{_≢_};
 ghost use Prim.Native.Nat.{ℕ, _≤_};
 ghost use lib.ListN.{length};
+ghost use Rattle.rules.specs.Limit as Limit;
 ghost use Rattle.rules.specs.Store.{objectNamed};
 ghost use Rattle.rules.specs.Refusals.{running};
 ghost use Rattle.layout.specs.Layout;
@@ -55,7 +56,7 @@ pub fn find_object(bytes: &[u8], links: &[u16], name: Name) -> usize
 
 // Slot o holds a living process.
 pub fn is_process(bytes: &[u8], links: &[u16], o: usize) -> bool
-    requires { ⌜ Sizes (now bytes) (now links) ⌝ ∗ ⌜ o ≤ 64 ⌝ }
+    requires { ⌜ Sizes (now bytes) (now links) ⌝ ∗ ⌜ o ≤ Limit.objects ⌝ }
     ensures { λ r. ⌜ ((w : List ℕ) → r ≡ view (now (bytes .entry)) (now (links .entry)) w .object o .process) ⌝ }
 {
     if o == 0 {
@@ -83,7 +84,7 @@ fn is_unmarked(bytes: &[u8], o: usize) -> bool
 
 // Slot me holds a process that is not suspended, waiting or terminated.
 pub fn running(bytes: &[u8], links: &[u16], me: usize) -> bool
-    requires { ⌜ Sizes (now bytes) (now links) ⌝ ∗ ⌜ me ≤ 64 ⌝ }
+    requires { ⌜ Sizes (now bytes) (now links) ⌝ ∗ ⌜ me ≤ Limit.objects ⌝ }
     ensures { λ r. ⌜ ((w : List ℕ) → r ≡ running (view (now (bytes .entry)) (now (links .entry)) w) me) ⌝ }
 {
     if me == 0 {

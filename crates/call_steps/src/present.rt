@@ -3,6 +3,7 @@ ghost use mathlib.Core.Path.{_≡_};
 ghost use mathlib.Core.List.{List};
 ghost use Prim.Native.Nat.{ℕ, _≤_};
 ghost use lib.ListN.{length};
+ghost use Rattle.rules.specs.Limit as Limit;
 ghost use Rattle.rules.specs.Slots.{find};
 ghost use Rattle.rules.specs.Rights.{has};
 ghost use Rattle.rules.specs.Password.{presented};
@@ -17,16 +18,17 @@ ghost use Rattle.call_steps.specs.Tests.{CapSizes, CapSlot, held};
 use crate::groups::last_p1;
 use crate::objects::find_object;
 use crate::request::Capability;
-use crate::widen::slot;
 use layout::LOCK1;
 use layout::LOCK2;
 use layout::OWNER;
 use layout::P1;
 use layout::P2;
 use layout::RIGHTS;
+use layout::slot;
 use values::code::DONE;
 use values::code::NOT_FOUND;
 use values::code::RIGHT_MISSING;
+use values::limit::MAX_CAPS;
 use values::password::unlock;
 use values::rights::Rights;
 
@@ -48,10 +50,10 @@ fn is_held(links: &[u16], words: &[u32], i: usize, o: usize, p: [u32; 2]) -> boo
 fn find_held(links: &[u16], words: &[u32], o: usize, p: [u32; 2]) -> usize
     requires { ⌜ CapSizes (now links) (now words) ⌝ ∗ ⌜ 1 ≤ o ⌝ }
     ensures { λ r. ⌜ ((b : List ℕ)
-        → r ≡ find 512 (held (view b (now (links .entry)) (now (words .entry))) o (passwordOf p))) ⌝ }
+        → r ≡ find Limit.caps (held (view b (now (links .entry)) (now (words .entry))) o (passwordOf p))) ⌝ }
 {
     let p1 = p[0];
-    let mut i = last_p1(words, 512, p1);
+    let mut i = last_p1(words, MAX_CAPS, p1);
     while 0 < i {
         if is_held(links, words, i, o, p) {
             return i;

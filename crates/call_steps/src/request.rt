@@ -3,6 +3,7 @@ ghost use Rattle.values.specs.Words.{passwordOf};
 ghost use Rattle.call_steps.specs.Request.{nameOf};
 ghost use Rattle.call_steps.specs.Refuses.{Refuses};
 ghost use Rattle.call_steps.specs.Replies.{HandsBack};
+use values::code::DONE;
 use values::window::Window;
 
 // An object's name: its volume and a serial.
@@ -75,7 +76,7 @@ impl Reply {
         ensures { λ r. ⌜ HandsBack (nameOf name) (passwordOf password) r ⌝ }
     {
         Reply {
-            code: 0,
+            code: DONE,
             capability: Capability {
                 name: name,
                 password: password,

@@ -2,13 +2,15 @@
 ghost use mathlib.Core.Path.{_≡_};
 ghost use mathlib.Core.List.{List};
 ghost use Prim.Native.Nat.{ℕ, _≤_};
+ghost use Rattle.rules.specs.Limit as Limit;
 ghost use Rattle.rules.specs.Slots.{some};
 ghost use Rattle.layout.specs.View.{view};
 ghost use Rattle.call_steps.specs.Tests.{CapSizes, CapSlot, taken};
 use crate::groups::last_p1;
-use crate::widen::slot;
 use layout::OWNER;
 use layout::P1;
+use layout::slot;
+use values::limit::MAX_CAPS;
 
 // Slot i holds a capability of object o with this p1.
 fn has_p1(links: &[u16], words: &[u32], i: usize, o: usize, p1: u32) -> bool
@@ -25,9 +27,9 @@ fn has_p1(links: &[u16], words: &[u32], i: usize, o: usize, p1: u32) -> bool
 pub fn p1_taken(links: &[u16], words: &[u32], o: usize, p1: u32) -> bool
     requires { ⌜ CapSizes (now links) (now words) ⌝ ∗ ⌜ 1 ≤ o ⌝ }
     ensures { λ r. ⌜ ((b : List ℕ)
-        → r ≡ some 512 (taken (view b (now (links .entry)) (now (words .entry))) o p1)) ⌝ }
+        → r ≡ some Limit.caps (taken (view b (now (links .entry)) (now (words .entry))) o p1)) ⌝ }
 {
-    let mut i = last_p1(words, 512, p1);
+    let mut i = last_p1(words, MAX_CAPS, p1);
     while 0 < i {
         if has_p1(links, words, i, o, p1) {
             return true;

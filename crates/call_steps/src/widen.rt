@@ -12,10 +12,3 @@ pub fn wide16(link: u16) -> u32
 {
     link as u32
 }
-
-// The slot that a link names.
-pub fn slot(link: u16) -> usize
-    ensures { λ r. ⌜ r ≡ link ⌝ }
-{
-    link as usize
-}

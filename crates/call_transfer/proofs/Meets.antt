@@ -17,7 +17,7 @@ use Rattle.layout.specs.WellFormed.{Plain}
 use Rattle.layout.proofs.Shown.{cap-object, cap-here, bytes-here}
 use Rattle.call_steps.specs.Run.{Held, MeetsPlain, over}
 use Rattle.call_steps.proofs.Meeting.{takes, DoesPlain, plain-settled}
-use Rattle.call_transfer.specs.Runs.{range, window, inside, bytesIn, handed, copiedIn, readRun, writeRun}
+use Rattle.call_transfer.specs.Runs.{range, window, inside, bytesIn, handedOver, copiedIn, readRun, writeRun}
 use Rattle.call_transfer.proofs.Stops.{inside-no, ends-in}
 use Rattle.call_transfer.proofs.Requires.{target-of}
 use Rattle.call_transfer.proofs.Stored.{replaced, after-length, write-stored, write-cells}
@@ -35,7 +35,7 @@ module _ {b l w : List ℕ} (f : Plain b l w) (c : Call) (me k : ℕ) (h : Held 
   stop-is = rw (cap-here b l w k (h .live))
 
   pub read-meets : op (c .number) ≡ read → MeetsPlain l s c me k read (readRun b l w k (c .range .start) (c .range .end))
-  unfolding takes refuses does readDoes readRun handed handsOver bytesIn
+  unfolding takes refuses does readDoes readRun handedOver handsOver bytesIn
   read-meets e = plain-settled b l w c me k read (rw e refl) f (inside w k (c .range .start) (c .range .end)) _ stop-is
       (λ z. record {
         rules = rw (cap-object b l w k, bytes-here b l w _ alive);

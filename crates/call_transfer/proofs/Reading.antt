@@ -12,7 +12,7 @@ use Rattle.rules.specs.Calls.{liesIn}
 use Rattle.layout.specs.Rows.{sizeOf, firstBlockOf, ownerOf}
 use Rattle.call_steps.specs.Run.{Ran, over, overlay}
 use Rattle.call_steps.proofs.Meeting.{stopped, goes-on}
-use Rattle.call_transfer.specs.Runs.{cellOf, laid, copiedOut, range, window, part, handed, readRun, Reads, ReadAsks}
+use Rattle.call_transfer.specs.Runs.{cellOf, laid, copiedOut, range, window, part, handedOver, readRun, Reads, ReadAsks}
 use Rattle.call_transfer.proofs.Laid.{laid-length, laid-other, laid-at}
 use Rattle.call_transfer.proofs.Places.{part-length, part-at}
 use Rattle.call_transfer.proofs.Stops.{inside-no, inside-yes, ends-in}
@@ -57,7 +57,7 @@ module _ {b l w buffer : List ℕ} {k start end : ℕ} where
       → Reads b l w buffer k start end 7 buffer
   unfolding readRun over code overlay
   reads-met e =
-      let done : Ran = handed (part b l (ownerOf l k) start end) b l w in
+      let done : Ran = handedOver (part b l (ownerOf l k) start end) b l w in
       let run = stopped b l w done 7 (inside-no w k start end e) (omega arith) in
       record {
         code = ap (λ (r : Ran). r .answer .code) run;
@@ -69,12 +69,12 @@ module _ {b l w buffer : List ℕ} {k start end : ℕ} where
       → liesIn (range start end) (window w k) ≡ true
       → (after : List ℕ) → after ≡ copiedOut b l head start (end - start) buffer
       → Reads b l w buffer k start end 0 after
-  unfolding readRun handed handsOver
+  unfolding readRun handedOver handsOver
   reads-done a head h e after c =
       let o : ℕ = ownerOf l k in
       let t = a .target in
       let fits : end ≤ sizeOf l o = omega (arith, ends-in w k start end e, t .fits) in
-      let run = goes-on b l w (handed (part b l o start end) b l w) (inside-yes w k start end e) in
+      let run = goes-on b l w (handedOver (part b l o start end) b l w) (inside-yes w k start end e) in
       record {
         code = ap (λ (r : Ran). r .answer .code) run;
         buffer-is = c ∙ ap (λ x. copiedOut b l x start (end - start) buffer) h

@@ -17,7 +17,7 @@ use Rattle.layout.proofs.Shown.{object-here, cap-object, cap-here, cap-shown}
 use Rattle.layout.proofs.Asked.{fields}
 use Rattle.call_steps.specs.Run.{Held}
 use Rattle.call_steps.proofs.Holding as Holding
-use Rattle.call_transfer.specs.Runs.{Target, ReadAsks, WriteAsks}
+use Rattle.call_transfer.specs.Runs.{BlocksHold, ReadAsks, WriteAsks}
 use Rattle.call_transfer.proofs.Apart.{chain-is, chain-long}
 
 -- a window lies in the master's, which ends at the size
@@ -41,7 +41,7 @@ module _ {b l w : List ℕ} {k : ℕ} (f : Plain b l w) (h : Held l k) where
       ∙ ap (λ (x : Object). x .size) (object-here b l w (ownerOf l k) alive) in
       omega (arith, end-fits s (f .valid .formed) k (cap-shown b l w k (h .live)), end, size)
 
-  pub target-of : Target l w k
+  pub target-of : BlocksHold l w k
   target-of =
       let T = Holding.target-of f h in
       let o : ℕ = ownerOf l k in
@@ -62,6 +62,6 @@ module _ {b l w : List ℕ} {k : ℕ} (f : Plain b l w) (h : Held l k) where
     room = r;
   }
 
-  pub write-asks : {start end : ℕ} (source : List ℕ) → start ≤ end → length source ≡ end - start
-      → WriteAsks b l w source k start end
-  write-asks source o e = record { sized = f .sized; target = target-of; ordered = o; long = e }
+  pub write-asks : {start end : ℕ} (text : List ℕ) → start ≤ end → length text ≡ end - start
+      → WriteAsks b l w text k start end
+  write-asks text o e = record { sized = f .sized; target = target-of; ordered = o; long = e }

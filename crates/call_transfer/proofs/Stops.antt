@@ -12,7 +12,7 @@ use Rattle.rules.specs.Calls.{liesIn}
 use Rattle.rules.proofs.Tests.{all2}
 use Rattle.layout.specs.Rows.{firstBlockOf, nextBlockOf, ownerOf, startOf, endOf}
 use Rattle.layout.specs.WellFormed.{Sized}
-use Rattle.call_transfer.specs.Runs.{range, window, inside, Target, CopyAsks}
+use Rattle.call_transfer.specs.Runs.{range, window, inside, BlocksHold, CopyAsks}
 use Rattle.call_transfer.proofs.Hops.{hop-block}
 
 module _ (w : List ℕ) (k start end : ℕ) where
@@ -28,7 +28,7 @@ module _ (w : List ℕ) (k start end : ℕ) where
   unfolding liesIn
   ends-in e = leb-true end (endOf w k) (all2 (leb (startOf w k) start) (leb end (endOf w k)) e .1)
 
-pub copy-asks : {b l w : List ℕ} {k : ℕ} (head start end n : ℕ) → Sized b l w → Target l w k
+pub copy-asks : {b l w : List ℕ} {k : ℕ} (head start end n : ℕ) → Sized b l w → BlocksHold l w k
     → head ≡ firstBlockOf l (ownerOf l k)
     → liesIn (range start end) (window w k) ≡ true → start + n ≡ end
     → CopyAsks b l head start n

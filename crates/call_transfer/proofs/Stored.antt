@@ -26,68 +26,68 @@ use Rattle.call_transfer.proofs.Hops.{chain-block}
 use Rattle.call_transfer.proofs.Places.{bytes-in-length, byte-at}
 use Rattle.call_transfer.proofs.Apart.{low, high, chain-is, chain-long, cell-high, cells-apart, other-block}
 
--- ---- bytes with source from start on
+-- ---- bytes with text from start on
 
 abbrev pub replaced : ℕ → List ℕ → List ℕ → List ℕ
-replaced start source xs = take start xs ++ (source ++ drop (start + length source) xs)
+replaced start text xs = take start xs ++ (text ++ drop (start + length text) xs)
 
-module _ (start : ℕ) (source xs : List ℕ) (fits : start + length source ≤ length xs) where
+module _ (start : ℕ) (text xs : List ℕ) (fits : start + length text ≤ length xs) where
   front-length : length (take start xs) ≡ start
   front-length = omega (arith, length-take start xs)
 
-  replaced-length : length (replaced start source xs) ≡ length xs
+  replaced-length : length (replaced start text xs) ≡ length xs
   replaced-length = rw (length-append, length-append, length-take, length-drop) (omega arith)
 
-  replaced-front : (i : ℕ) → i < start → getD (replaced start source xs) i 0 ≡ getD xs i 0
-  replaced-front i h = List·getD-append (take start xs) (source ++ drop (start + length source) xs) 0 i
+  replaced-front : (i : ℕ) → i < start → getD (replaced start text xs) i 0 ≡ getD xs i 0
+  replaced-front i h = List·getD-append (take start xs) (text ++ drop (start + length text) xs) 0 i
       (omega (arith, front-length)) ∙ getD-take start xs i 0 h
 
-  replaced-on : (j : ℕ) → getD (replaced start source xs) (start + j) 0
-      ≡ getD (source ++ drop (start + length source) xs) j 0
+  replaced-on : (j : ℕ) → getD (replaced start text xs) (start + j) 0
+      ≡ getD (text ++ drop (start + length text) xs) j 0
   replaced-on j =
-      ap (λ x. getD (replaced start source xs) (x + j) 0) (sym front-length)
-      ∙ getD-append-add (take start xs) (source ++ drop (start + length source) xs) j 0
+      ap (λ x. getD (replaced start text xs) (x + j) 0) (sym front-length)
+      ∙ getD-append-add (take start xs) (text ++ drop (start + length text) xs) j 0
 
-  replaced-in : (j : ℕ) → j < length source → getD (replaced start source xs) (start + j) 0 ≡ getD source j 0
-  replaced-in j h = replaced-on j ∙ List·getD-append source (drop (start + length source) xs) 0 j h
+  replaced-in : (j : ℕ) → j < length text → getD (replaced start text xs) (start + j) 0 ≡ getD text j 0
+  replaced-in j h = replaced-on j ∙ List·getD-append text (drop (start + length text) xs) 0 j h
 
-  replaced-back : (i : ℕ) → start + length source ≤ i → getD (replaced start source xs) i 0 ≡ getD xs i 0
+  replaced-back : (i : ℕ) → start + length text ≤ i → getD (replaced start text xs) i 0 ≡ getD xs i 0
   replaced-back i h =
-      let m : ℕ = i - (start + length source) in
-      let here : start + (length source + m) ≡ i = omega arith in
-      let there : start + length source + m ≡ i = omega arith in
-      ap (λ x. getD (replaced start source xs) x 0) (sym here)
-      ∙ replaced-on (length source + m)
-      ∙ getD-append-add source (drop (start + length source) xs) m 0
-      ∙ getD-drop (start + length source) xs m 0
+      let m : ℕ = i - (start + length text) in
+      let here : start + (length text + m) ≡ i = omega arith in
+      let there : start + length text + m ≡ i = omega arith in
+      ap (λ x. getD (replaced start text xs) x 0) (sym here)
+      ∙ replaced-on (length text + m)
+      ∙ getD-append-add text (drop (start + length text) xs) m 0
+      ∙ getD-drop (start + length text) xs m 0
       ∙ ap (λ x. getD xs x 0) there
 
 -- ---- the cells after a write to the living object o
 
 module _ (b l : List ℕ) (long : length b ≡ Layout.BYTES) (B : Blocks l) (o : ℕ) (alive : masterOf l o ≢ 0)
-    (start : ℕ) (source : List ℕ) (fits : start + length source ≤ sizeOf l o) where
+    (start : ℕ) (text : List ℕ) (fits : start + length text ≤ sizeOf l o) where
   abbrev head : ℕ
   head = firstBlockOf l o
 
   abbrev after : List ℕ
-  after = copiedIn l head start source (length source) b
+  after = copiedIn l head start text (length text) b
 
   pub after-length : length after ≡ Layout.BYTES
-  after-length = laid-length (λ i. cellOf l head (start + i)) (λ i. getD source i 0) b (length source) ∙ long
+  after-length = laid-length (λ i. cellOf l head (start + i)) (λ i. getD text i 0) b (length text) ∙ long
 
   -- a cell that no byte written stands in
-  untouched : (c : ℕ) → ((i : ℕ) → i < length source → c ≢ cellOf l head (start + i)) → getD after c 0 ≡ getD b c 0
-  untouched c h = laid-other (λ i. cellOf l head (start + i)) (λ i. getD source i 0) b (length source) c h
+  untouched : (c : ℕ) → ((i : ℕ) → i < length text → c ≢ cellOf l head (start + i)) → getD after c 0 ≡ getD b c 0
+  untouched c h = laid-other (λ i. cellOf l head (start + i)) (λ i. getD text i 0) b (length text) c h
 
-  byte-kept : (p : ℕ) → p < sizeOf l o → ((i : ℕ) → i < length source → p ≢ start + i)
+  byte-kept : (p : ℕ) → p < sizeOf l o → ((i : ℕ) → i < length text → p ≢ start + i)
       → getD after (cellOf l head p) 0 ≡ getD b (cellOf l head p) 0
   byte-kept p h ne = untouched (cellOf l head p)
       (λ i q e. ne i q (cells-apart l B o alive p (start + i) h (omega arith) e))
 
-  byte-written : (i : ℕ) → i < length source → getD after (cellOf l head (start + i)) 0 ≡ getD source i 0
+  byte-written : (i : ℕ) → i < length text → getD after (cellOf l head (start + i)) 0 ≡ getD text i 0
   byte-written i h =
       let fit : cellOf l head (start + i) < length b = omega (arith, cell-high l B o alive (start + i) (omega arith)) in
-      laid-at (λ i. cellOf l head (start + i)) (λ i. getD source i 0) b (length source) i h
+      laid-at (λ i. cellOf l head (start + i)) (λ i. getD text i 0) b (length text) i h
       (λ j p q e.
       let same : start + i ≡ start + j =
       cells-apart l B o alive (start + i) (start + j) (omega arith) (omega arith) e in
@@ -119,27 +119,27 @@ module _ (b l : List ℕ) (long : length b ≡ Layout.BYTES) (B : Blocks l) (o :
   was-at : (p : ℕ) → p < sizeOf l o → getD was p 0 ≡ getD b (cellOf l head p) 0
   was-at = byte-at b l o long (B .chain o) (chain-is l B o alive) (chain-long l B o alive)
 
-  room : start + length source ≤ length was
+  room : start + length text ≤ length was
   room = omega (arith, was-length)
 
-  object-written : bytesIn after l o ≡ replaced start source was
-  object-written = ext-getD 0 (bytesIn after l o) (replaced start source was)
-      (now-length ∙ sym (replaced-length start source was room ∙ was-length))
-      (λ p h. go p (omega (arith, now-length)) (decLe start p) (decLe (start + length source) p))
+  object-written : bytesIn after l o ≡ replaced start text was
+  object-written = ext-getD 0 (bytesIn after l o) (replaced start text was)
+      (now-length ∙ sym (replaced-length start text was room ∙ was-length))
+      (λ p h. go p (omega (arith, now-length)) (decLe start p) (decLe (start + length text) p))
     where
       now-length : length (bytesIn after l o) ≡ sizeOf l o
       now-length = bytes-in-length after l o after-length (B .chain o) (chain-is l B o alive) (chain-long l B o alive)
 
-      go : (p : ℕ) → p < sizeOf l o → Dec (start ≤ p) → Dec (start + length source ≤ p)
-          → getD (bytesIn after l o) p 0 ≡ getD (replaced start source was) p 0
+      go : (p : ℕ) → p < sizeOf l o → Dec (start ≤ p) → Dec (start + length text ≤ p)
+          → getD (bytesIn after l o) p 0 ≡ getD (replaced start text was) p 0
       go p h (no f) d = now-at p h ∙ byte-kept p h (λ i q. omega arith) ∙ sym (was-at p h)
-          ∙ sym (replaced-front start source was room p (omega arith))
+          ∙ sym (replaced-front start text was room p (omega arith))
       go p h (yes f) (yes g) = now-at p h ∙ byte-kept p h (λ i q. omega arith) ∙ sym (was-at p h)
-          ∙ sym (replaced-back start source was room p g)
+          ∙ sym (replaced-back start text was room p g)
       go p h (yes f) (no g) =
           let e : start + (p - start) ≡ p = omega arith in
           rw e at (now-at (start + (p - start)) (omega arith) ∙ byte-written (p - start) (omega arith)
-          ∙ sym (replaced-in start source was room (p - start) (omega arith)))
+          ∙ sym (replaced-in start text was room (p - start) (omega arith)))
 
   -- ---- the other objects' bytes
 
@@ -165,17 +165,17 @@ module _ (b l : List ℕ) (long : length b ≡ Layout.BYTES) (B : Blocks l) (o :
 
   -- ---- the view
 
-  here : (w : List ℕ) → view after l w .bytes o ≡ replaced start source (view b l w .bytes o)
+  here : (w : List ℕ) → view after l w .bytes o ≡ replaced start text (view b l w .bytes o)
   unfolding bytesIn
-  here w = bytes-here after l w o alive ∙ object-written ∙ ap (replaced start source) (sym (bytes-here b l w o alive))
+  here w = bytes-here after l w o alive ∙ object-written ∙ ap (replaced start text) (sym (bytes-here b l w o alive))
 
   pub write-stored : (w : List ℕ) → view after l w
-      ≡ withBytes (view b l w) (at (view b l w .bytes) o (replaced start source (view b l w .bytes o)))
+      ≡ withBytes (view b l w) (at (view b l w .bytes) o (replaced start text (view b l w .bytes o)))
   unfolding withBytes
   write-stored w =
       let flag : flagOf after ≡ flagOf b = row-kept 64 Layout.FLAG (omega arith) in
       state-is (view after l w)
-      (withBytes (view b l w) (at (view b l w .bytes) o (replaced start source (view b l w .bytes o))))
+      (withBytes (view b l w) (at (view b l w .bytes) o (replaced start text (view b l w .bytes o))))
       (house-same b l w after l w refl)
       (object-same b l w after l w refl (row-kept 64 Layout.VOLUME (omega arith)) refl refl flag)
       (at-is (view b l w .bytes) (view after l w .bytes) o _ (here w) (other-kept w))

@@ -16,8 +16,7 @@ use Rattle.layout.specs.Rows.{sizeOf, firstBlockOf, ownerOf, nextBlockOf, start
 use Rattle.layout.specs.View.{gather, view}
 use Rattle.layout.specs.Shape.{Chain}
 use Rattle.layout.specs.WellFormed.{Sized}
-use Rattle.call_steps.specs.Run as Run
-use Rattle.call_steps.specs.Run.{Ran, over, settled, overlay}
+use Rattle.call_steps.specs.Run.{Target, Ran, over, settled, overlay}
 
 -- ---- places
 
@@ -43,9 +42,9 @@ laid place value (suc n) xs = set (laid place value n xs) (place n) (value n)
 abbrev pub copiedOut : List ℕ → List ℕ → ℕ → ℕ → ℕ → List ℕ → List ℕ
 copiedOut b l head start n buffer = laid (λ i. i) (λ i. getD b (cellOf l head (start + i)) 0) n buffer
 
--- the store's bytes, where the data are copied to the object, from start on
+-- the store's bytes, where the text is copied to the object, from start on
 abbrev pub copiedIn : List ℕ → ℕ → ℕ → List ℕ → ℕ → List ℕ → List ℕ
-copiedIn l head start source n b = laid (λ i. cellOf l head (start + i)) (λ i. getD source i 0) n b
+copiedIn l head start text n b = laid (λ i. cellOf l head (start + i)) (λ i. getD text i 0) n b
 
 -- ---- read, write: 7 the range is not inside the window
 
@@ -65,13 +64,13 @@ bytesIn b l o = take (sizeOf l o) (gather (blocks (sizeOf l o)) (nextBlockOf l) 
 
 -- ---- read
 
--- its bytes start to end
+-- its bytes from start to end
 abbrev pub part : List ℕ → List ℕ → ℕ → ℕ → ℕ → List ℕ
 part b l o start end = take (end - start) (drop start (bytesIn b l o))
 
 -- bytes are handed over, and nothing changed
-unfoldable pub handed : List ℕ → List ℕ → List ℕ → List ℕ → Ran
-handed xs b l w = record {
+unfoldable pub handedOver : List ℕ → List ℕ → List ℕ → List ℕ → Ran
+handedOver xs b l w = record {
   answer = handsOver 0 xs (view b l w) .answer;
   bytes = b;
   links = l;
@@ -79,7 +78,7 @@ handed xs b l w = record {
 }
 
 unfoldable pub readRun : List ℕ → List ℕ → List ℕ → ℕ → ℕ → ℕ → Ran
-readRun b l w k start end = settled (inside w k start end) b l w (handed (part b l (ownerOf l k) start end) b l w)
+readRun b l w k start end = settled (inside w k start end) b l w (handedOver (part b l (ownerOf l k) start end) b l w)
 
 -- the code and the buffer are those of the run
 pub record Reads (b l w buffer : List ℕ) (k start end r : ℕ) (after : List ℕ) : Type 0 where
@@ -89,14 +88,14 @@ pub record Reads (b l w buffer : List ℕ) (k start end r : ℕ) (after : List �
 -- ---- write
 
 unfoldable pub writeRun : List ℕ → List ℕ → List ℕ → ℕ → ℕ → ℕ → List ℕ → Ran
-writeRun b l w k start end source = settled (inside w k start end) b l w
-    (over 0 (copiedIn l (firstBlockOf l (ownerOf l k)) start source (length source) b) l w)
+writeRun b l w k start end text = settled (inside w k start end) b l w
+    (over Code.done (copiedIn l (firstBlockOf l (ownerOf l k)) start text (length text) b) l w)
 
 -- ---- what the code asks
 
 -- capability k lives and names a living object, whose blocks are there and hold the window
-pub record Target (l w : List ℕ) (k : ℕ) : Type 0 where
-  pub owned : Run.Target l k
+pub record BlocksHold (l w : List ℕ) (k : ℕ) : Type 0 where
+  pub owned : Target l k
   pub chain : (xs : List ℕ) × Chain Limit.blocks (nextBlockOf l) (firstBlockOf l (ownerOf l k)) xs
       × (length xs ≡ blocks (sizeOf l (ownerOf l k)))
   pub fits : endOf w k ≤ sizeOf l (ownerOf l k)
@@ -104,7 +103,7 @@ pub record Target (l w : List ℕ) (k : ℕ) : Type 0 where
 
 pub record ReadAsks (b l w buffer : List ℕ) (k start end : ℕ) : Type 0 where
   pub sized : Sized b l w
-  pub target : Target l w k
+  pub target : BlocksHold l w k
   pub ordered : start ≤ end
   pub short : end ≤ start + Limit.transfer
   pub room : Limit.buffer ≤ length buffer
@@ -116,8 +115,8 @@ pub record CopyAsks (b l : List ℕ) (head start n : ℕ) : Type 0 where
   pub small : start + n ≤ Limit.size
   pub blocked : Blocked l head (blocks (start + n))
 
-pub record WriteAsks (b l w source : List ℕ) (k start end : ℕ) : Type 0 where
+pub record WriteAsks (b l w text : List ℕ) (k start end : ℕ) : Type 0 where
   pub sized : Sized b l w
-  pub target : Target l w k
+  pub target : BlocksHold l w k
   pub ordered : start ≤ end
-  pub long : length source ≡ end - start
+  pub long : length text ≡ end - start

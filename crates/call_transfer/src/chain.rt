@@ -2,14 +2,15 @@
 ghost use Prim.Native.Nat.{_≤_};
 ghost use mathlib.Core.Path.{_≡_};
 ghost use lib.ListN.{length};
+ghost use Rattle.rules.specs.Limit as Limit;
 ghost use Rattle.layout.specs.Layout as Layout;
 ghost use Rattle.layout.specs.Rows.{nextBlockOf};
 ghost use Rattle.call_transfer.specs.Runs.{hop, Blocked};
 use layout::NEXT_BLOCK;
 
 // The block after block k.
-pub fn next_block(links: &[u16], k: usize) -> usize
-    requires { ⌜ (length (now links) ≡ Layout.LINKS) × (1 ≤ k) × (k ≤ 512) ⌝ }
+pub(crate) fn next_block(links: &[u16], k: usize) -> usize
+    requires { ⌜ (length (now links) ≡ Layout.LINKS) × (1 ≤ k) × (k ≤ Limit.blocks) ⌝ }
     ensures { λ r. ⌜ r ≡ nextBlockOf (now (links .entry)) k ⌝ }
 {
     links[NEXT_BLOCK + k] as usize

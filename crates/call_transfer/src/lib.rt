@@ -1,6 +1,6 @@
 // read and write, after the fee and with the capability found: bytes of an object, at most 256, across its blocks.
 pub mod chain;
-pub mod part;
+mod part;
 pub mod read;
-pub mod window;
+mod window;
 pub mod write;

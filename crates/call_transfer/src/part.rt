@@ -7,7 +7,7 @@ ghost use Rattle.call_transfer.specs.Runs.{laid};
 use values::limit::BLOCK_SIZE;
 
 // Of n bytes from byte p on, those that stand in its block.
-pub fn part_of(p: usize, n: usize) -> usize
+pub(crate) fn part_of(p: usize, n: usize) -> usize
     ensures { λ r. ⌜ r ≡ min n (Limit.block - p % Limit.block) ⌝ }
 {
     let left = BLOCK_SIZE - p % BLOCK_SIZE;
@@ -18,7 +18,7 @@ pub fn part_of(p: usize, n: usize) -> usize
 }
 
 // n bytes from place `from` on, to place `to` on.
-pub fn copy_part(src: &[u8], from: usize, dst: &mut [u8], to: usize, n: usize)
+pub(crate) fn copy_part(src: &[u8], from: usize, dst: &mut [u8], to: usize, n: usize)
     requires { ⌜ (from + n ≤ length (now src)) × (to + n ≤ length (now dst)) ⌝ }
     ensures { λ _. ⌜ now (dst .exit)
         ≡ laid (λ j. to + j) (λ j. getD (now (src .entry)) (from + j) 0) n (now (dst .entry)) ⌝ }

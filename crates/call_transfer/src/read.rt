@@ -1,4 +1,5 @@
-// "read: 7 the range is not inside the window. At most 256 bytes go to the buffer's front."
+// "read, write: 7 the range is not inside the window. Offsets count from the object's start." The bytes go to the
+// buffer's front.
 ghost use Prim.Native.Nat.{_≤_};
 ghost use mathlib.Core.Path.{_≡_};
 ghost use lib.ListN.{length};
@@ -10,6 +11,8 @@ use crate::part::part_of;
 use crate::window::first_block;
 use crate::window::in_window;
 use layout::DATA;
+use values::code::DONE;
+use values::code::OUTSIDE_WINDOW;
 use values::limit::BLOCK_SIZE;
 
 // n bytes from start on, of the object whose first block is head, to the buffer's front.
@@ -54,7 +57,7 @@ pub fn read(
             start as usize,
             (end - start) as usize,
         );
-        return 0;
+        return DONE;
     }
-    7
+    OUTSIDE_WINDOW
 }

@@ -2,6 +2,7 @@
 ghost use Prim.Native.Nat.{_≤_};
 ghost use mathlib.Core.Path.{_≡_};
 ghost use lib.ListN.{length};
+ghost use Rattle.rules.specs.Limit as Limit;
 ghost use Rattle.rules.specs.Calls.{liesIn};
 ghost use Rattle.layout.specs.Layout as Layout;
 ghost use Rattle.layout.specs.Rows.{ownerOf, firstBlockOf};
@@ -14,8 +15,8 @@ use layout::START;
 use values::window::Window;
 
 // The range start to end lies in the window of the capability in slot k.
-pub fn in_window(words: &[u32], k: usize, start: u32, end: u32) -> bool
-    requires { ⌜ (length (now words) ≡ Layout.WORDS) × (1 ≤ k) × (k ≤ 512) ⌝ }
+pub(crate) fn in_window(words: &[u32], k: usize, start: u32, end: u32) -> bool
+    requires { ⌜ (length (now words) ≡ Layout.WORDS) × (1 ≤ k) × (k ≤ Limit.caps) ⌝ }
     ensures { λ r. ⌜ r ≡ liesIn (range start end) (window (now (words .entry)) k) ⌝ }
 {
     let from = words[START + k];
@@ -31,7 +32,7 @@ pub fn in_window(words: &[u32], k: usize, start: u32, end: u32) -> bool
 }
 
 // The first block of the object that the capability in slot k is for.
-pub fn first_block(links: &[u16], k: usize) -> usize
+pub(crate) fn first_block(links: &[u16], k: usize) -> usize
     requires { ⌜ (length (now links) ≡ Layout.LINKS) × Target (now links) k ⌝ }
     ensures { λ r. ⌜ r ≡ firstBlockOf (now (links .entry)) (ownerOf (now (links .entry)) k) ⌝ }
 {

@@ -22,7 +22,7 @@ use Rattle.kernel_step.specs.Slices.{Slices, slices, stateOf, callOn}
 use Rattle.kernel_step.specs.Own.{ownRun}
 use Rattle.kernel_step.specs.Run.{stepRun}
 use Rattle.kernel_step.specs.Ends.{scratchAfter, Ends, StepEnds}
-use Rattle.kernel_step.specs.Steps.{Refuses, front, Steps, Stepped}
+use Rattle.kernel_step.specs.Steps.{RefusalLeaves, front, Steps, Stepped}
 use Rattle.kernel_step.proofs.Meeting.{step-meets}
 use Rattle.kernel_step.proofs.Taking.{blocks-free}
 use Rattle.kernel_step.proofs.Refusing.{OwnLeaves, own-leaves, step-leaves}
@@ -41,7 +41,7 @@ pub record Promises (S : List ℕ → Type 0) (c : Call) (r : Reply) (was is : S
   pub count : length (front r is) ≡ r .count
   pub buffer-is : is .buffer ≡ overlay (front r is) (was .buffer)
   pub scratch-is : is .scratch ≡ scratchAfter (op (c .number)) (r .code) (was .scratch)
-  pub refused : Refuses c (r .code) was is
+  pub refused : RefusalLeaves c (r .code) was is
 
 module _ (S : List ℕ → Type 0) (own : OwnPart) (leaves : OwnLeaves own) {c : Call} {r : Reply} {was is : Slices}
     (m : MeetsRule S (stateOf was) c (stepWith own (was .bytes) (was .links) (was .words) c))
@@ -70,9 +70,9 @@ module _ (S : List ℕ → Type 0) (own : OwnPart) (leaves : OwnLeaves own) {c :
         count = ap length bytes-are ∙ sym (E .replies .count);
         buffer-is = E .replies .buffer-is ∙ ap (λ t. overlay t (was .buffer)) (sym bytes-are);
         scratch-is = E .scratch ∙ ap (λ n. scratchAfter (op (c .number)) n (was .scratch)) (sym code-is);
-        refused = subst (Refuses c (r .code) was)
+        refused = subst (RefusalLeaves c (r .code) was)
             (λ d. slices (sym (T .bytes) d) (sym (T .links) d) (sym (T .words) d) (is .buffer) (is .scratch))
-            (subst (λ n. Refuses c n was (slices (x .bytes) (x .links) (x .words) (is .buffer) (is .scratch)))
+            (subst (λ n. RefusalLeaves c n was (slices (x .bytes) (x .links) (x .words) (is .buffer) (is .scratch)))
             (sym code-is)
             (step-leaves own leaves was c (m .choice) (is .buffer) (is .scratch)
             (ap (λ (o : Outcome). o .answer .code) (m .rules))));

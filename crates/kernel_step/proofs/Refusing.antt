@@ -28,7 +28,7 @@ use Rattle.call_enter.specs.Entry.{shownSlot, OwnPart, stepWith}
 use Rattle.call_enter.proofs.Stepping.{step-by}
 use Rattle.call_marks.specs.Runs.{suspendedRun, lockRun, waitRun, reviveRun, infoRun, told}
 use Rattle.call_purse.specs.Calls.{withdrawRun, depositRun}
-use Rattle.call_transfer.specs.Runs.{readRun, writeRun, handed}
+use Rattle.call_transfer.specs.Runs.{readRun, writeRun, handedOver}
 use Rattle.call_mail.specs.Runs.{sendRun, receiveRun, answered}
 use Rattle.call_make.specs.Runs.{makeRun, made}
 use Rattle.call_derive.specs.Runs.{deriveRun, derived}
@@ -36,7 +36,7 @@ use Rattle.call_delete.specs.Runs.{deleteRun}
 use Rattle.call_rename.specs.Runs.{renameRun, renamed}
 use Rattle.kernel_step.specs.Slices.{Slices, slices, Store, stateOf}
 use Rattle.kernel_step.specs.Own.{ownRun}
-use Rattle.kernel_step.specs.Steps.{Refuses}
+use Rattle.kernel_step.specs.Steps.{RefusalLeaves}
 
 -- the run leaves these slices
 abbrev pub Leaves : List ℕ → List ℕ → List ℕ → Ran → Type 0
@@ -58,7 +58,7 @@ module _ (b l w : List ℕ) where
       (λ nz. subst (Refusing b l w) (stopped b l w x n refl nz) (λ _. over-leaves n))
 
   pub own-leaves : (c : Call) (me k : ℕ) (o : Op) → Refusing b l w (ownRun b l w c me k o)
-  unfolding ownRun suspendedRun lockRun waitRun reviveRun infoRun told tells readRun writeRun handed handsOver sendRun
+  unfolding ownRun suspendedRun lockRun waitRun reviveRun infoRun told tells readRun writeRun handedOver handsOver sendRun
       receiveRun answered withdrawRun depositRun makeRun made deriveRun derived deleteRun renameRun renamed Replies.handed over code
   own-leaves c me k makeObj = settled-leaves _ _ refl
   own-leaves c me k read = settled-leaves _ _ refl
@@ -108,7 +108,7 @@ module _ (own : OwnPart) (leaves : OwnLeaves own) (was : Slices) (c : Call) (h :
 
   abbrev Left : Ran → Type 0
   Left x = rule s c h .answer .code ≡ x .answer .code
-      → Refuses c (x .answer .code) was (slices (x .bytes) (x .links) (x .words) buffer scratch)
+      → RefusalLeaves c (x .answer .code) was (slices (x .bytes) (x .links) (x .words) buffer scratch)
 
   -- after the fee
   paid-left : (x : Ran) → early s c ≡ 0 → Refusing (was .bytes) (was .links) w′ x → Left x

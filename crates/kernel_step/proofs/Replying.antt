@@ -30,19 +30,19 @@ use Rattle.call_steps.proofs.Meeting.{stopped, goes-on}
 use Rattle.call_enter.specs.Entry.{OwnPart}
 use Rattle.call_prune.specs.Scratch.{scratchLeft}
 use Rattle.call_delete.specs.Runs.{deleteRun}
-use Rattle.call_transfer.specs.Runs.{range, window, part, handed, readRun, Reads, ReadAsks}
+use Rattle.call_transfer.specs.Runs.{range, window, part, handedOver, readRun, Reads, ReadAsks}
 use Rattle.call_transfer.proofs.Places.{part-length}
 use Rattle.call_transfer.proofs.Stops.{inside-no, inside-yes, ends-in}
 use Rattle.call_mail.specs.Runs.{oldest, oldestBytes, receivedBytes, receivedWords, answered, receiveStop, receiveRun}
 use Rattle.call_mail.specs.Runs.{ReceiveAsks}
 use Rattle.call_mail.specs.Runs as Mail
 use Rattle.kernel_step.specs.Slices.{Slices, slices, Store, callOn}
-use Rattle.kernel_step.specs.Ends.{Replies, Hands, Receives, clears, scratchAfter, Ends, OwnEndsOf}
+use Rattle.kernel_step.specs.Ends.{Answers, Hands, ReceiveEnds, clears, scratchAfter, Ends, OwnEndsOf}
 
 -- ---- replies
 
 -- a code alone leaves the buffer
-pub replies-code : {n : ℕ} {r : Reply} (buffer : List ℕ) → Refuses n r → Replies (code n) r buffer buffer
+pub replies-code : {n : ℕ} {r : Reply} (buffer : List ℕ) → Refuses n r → Answers (code n) r buffer buffer
 unfolding code overlay
 replies-code {n} {r} buffer R = record {
   answer = ap (λ i. answerOf r (take i buffer)) (R .none) ∙ R .answer;
@@ -52,7 +52,7 @@ replies-code {n} {r} buffer R = record {
 
 -- bytes that stand at the buffer's front
 pub replies-bytes : {sum : ℕ} {r : Reply} (xs buffer buffer′ : List ℕ) (s : State) → Hands r sum (length xs)
-    → buffer′ ≡ overlay xs buffer → Replies (handsOver sum xs s .answer) r buffer buffer′
+    → buffer′ ≡ overlay xs buffer → Answers (handsOver sum xs s .answer) r buffer buffer′
 unfolding handsOver overlay
 replies-bytes {sum} {r} xs buffer buffer′ s H e =
     let front : take (r .count) buffer′ ≡ xs =
@@ -64,9 +64,9 @@ replies-bytes {sum} {r} xs buffer buffer′ s H e =
     }
 
 -- the answers of equal runs
-pub replies-same : {x y : Ran} {r : Reply} {buffer buffer′ : List ℕ} → x ≡ y → Replies (x .answer) r buffer buffer′
-    → Replies (y .answer) r buffer buffer′
-replies-same {x} {y} {r} {buffer} {buffer′} e R = subst (λ (z : Ran). Replies (z .answer) r buffer buffer′) e R
+pub replies-same : {x y : Ran} {r : Reply} {buffer buffer′ : List ℕ} → x ≡ y → Answers (x .answer) r buffer buffer′
+    → Answers (y .answer) r buffer buffer′
+replies-same {x} {y} {r} {buffer} {buffer′} e R = subst (λ (z : Ran). Answers (z .answer) r buffer buffer′) e R
 
 -- ---- the scratch
 
@@ -99,7 +99,7 @@ module _ {r : Reply} {b l w : List ℕ} {x : Ran} (R : Shared.Replies r b l w x)
   unfolding answerOf
   replied-code = ap (λ (a : Answer). a .code) (R .answer)
 
-  replied : (buffer : List ℕ) → Replies (x .answer) r buffer buffer
+  replied : (buffer : List ℕ) → Answers (x .answer) r buffer buffer
   unfolding overlay
   replied buffer = record {
     answer = ap (λ n. answerOf r (take n buffer)) (R .none) ∙ R .answer;
@@ -115,7 +115,7 @@ pub ends-code : {c : Call} {x : Ran} {n : ℕ} {r : Reply} {was is : Slices} →
 unfolding over code
 ends-code {c} {x} {n} {r} {was} {is} R e same kept left = record {
   replies = replies-same e
-      (subst (λ d. Replies (code n) r d (is .buffer)) same (replies-code (is .buffer) R));
+      (subst (λ d. Answers (code n) r d (is .buffer)) same (replies-code (is .buffer) R));
   store = record {
     bytes = ap (λ (y : Ran). y .bytes) e;
     links = ap (λ (y : Ran). y .links) e;
@@ -147,7 +147,7 @@ module _ (own : OwnPart) (q : Request) (text : List ℕ) (me k : ℕ) (was : Sli
   abbrev run : ℕ → Ran
   run i = own (was .bytes) (was .links) (was .words) (callOn q text was) me k (op i)
 
-  arm : {r : Reply} {is : Slices} → Replies (run m .answer) r (was .buffer) (is .buffer)
+  arm : {r : Reply} {is : Slices} → Answers (run m .answer) r (was .buffer) (is .buffer)
       → Store is (run m .bytes) (run m .links) (run m .words)
       → is .scratch ≡ scratchAfter (op m) (run m .answer .code) (was .scratch) → OwnEndsOf own q text me k r was is
   unfolding callOf
@@ -162,7 +162,7 @@ module _ (own : OwnPart) (q : Request) (text : List ℕ) (me k : ℕ) (was : Sli
       → is .buffer ≡ was .buffer → is .scratch ≡ scratchAfter (op m) n (was .scratch) → OwnEndsOf own q text me k r was is
   unfolding over code
   over-arm {n} {r} {is} R h same left = arm
-      (replies-same h (subst (λ d. Replies (code n) r d (is .buffer)) same (replies-code (is .buffer) R)))
+      (replies-same h (subst (λ d. Answers (code n) r d (is .buffer)) same (replies-code (is .buffer) R)))
       (record {
         bytes = ap (λ (y : Ran). y .bytes) h;
         links = ap (λ (y : Ran). y .links) h;
@@ -183,7 +183,7 @@ module _ (own : OwnPart) (q : Request) (text : List ℕ) (me k : ℕ) (was : Sli
 
   -- it gives more, and leaves the scratch
   pub arm-more : {r : Reply} {is : Slices} → clears (op m) ≡ false
-      → Replies (run m .answer) r (was .buffer) (is .buffer)
+      → Answers (run m .answer) r (was .buffer) (is .buffer)
       → Store is (run m .bytes) (run m .links) (run m .words) → is .scratch ≡ was .scratch
       → OwnEndsOf own q text me k r was is
   arm-more free R S kept = arm R S (kept ∙ scratch-kept (op m) (run m .answer .code) (was .scratch) free)
@@ -193,7 +193,7 @@ module _ (own : OwnPart) (q : Request) (text : List ℕ) (me k : ℕ) (was : Sli
       → is .buffer ≡ was .buffer → is .scratch ≡ scratchAfter (op m) (r .code) (was .scratch)
       → OwnEndsOf own q text me k r was is
   reply-arm {r} {is} R same left = arm
-      (subst (λ d. Replies (run m .answer) r d (is .buffer)) same (replied R (is .buffer)))
+      (subst (λ d. Answers (run m .answer) r d (is .buffer)) same (replied R (is .buffer)))
       (record { bytes = R .bytes; links = R .links; words = R .words })
       (left ∙ ap (λ n. scratchAfter (op m) n (was .scratch)) (replied-code R))
 
@@ -227,16 +227,16 @@ module _ (b l w buffer : List ℕ) (k start end : ℕ) where
 
   outside : liesIn (range start end) (window w k) ≡ false → over Code.outsideWindow b l w ≡ readRun b l w k start end
   unfolding readRun
-  outside h = stopped b l w (handed bytes-read b l w) Code.outsideWindow (inside-no w k start end h) (omega arith)
+  outside h = stopped b l w (handedOver bytes-read b l w) Code.outsideWindow (inside-no w k start end h) (omega arith)
 
-  within : liesIn (range start end) (window w k) ≡ true → handed bytes-read b l w ≡ readRun b l w k start end
+  within : liesIn (range start end) (window w k) ≡ true → handedOver bytes-read b l w ≡ readRun b l w k start end
   unfolding readRun
-  within h = goes-on b l w (handed bytes-read b l w) (inside-yes w k start end h)
+  within h = goes-on b l w (handedOver bytes-read b l w) (inside-yes w k start end h)
 
   -- a read leaves the store
   pub read-store : Store (slices b l w buffer buffer) (readRun b l w k start end .bytes)
       (readRun b l w k start end .links) (readRun b l w k start end .words)
-  unfolding handed over
+  unfolding handedOver over
   read-store =
       let same : (x : Ran) → Type 0 = λ x. Store (slices b l w buffer buffer) (x .bytes) (x .links) (x .words) in
       by-bool (liesIn (range start end) (window w k))
@@ -245,8 +245,8 @@ module _ (b l w buffer : List ℕ) (k start end : ℕ) where
 
   pub read-done : {n : ℕ} {r : Reply} {after : List ℕ} → ReadAsks b l w buffer k start end
       → Reads b l w buffer k start end n after → n ≡ 0 → Hands r 0 (end - start)
-      → Replies (readRun b l w k start end .answer) r buffer after
-  unfolding handed handsOver over code
+      → Answers (readRun b l w k start end .answer) r buffer after
+  unfolding handedOver handsOver over code
   read-done {n} {r} {after} a d z H = by-bool (liesIn (range start end) (window w k))
       (λ h.
       let t = a .target in
@@ -259,16 +259,16 @@ module _ (b l w buffer : List ℕ) (k start end : ℕ) where
       (λ h. absurd (omega (arith, d .code, ap (λ (x : Ran). x .answer .code) (outside h))))
 
   pub read-refused : {n : ℕ} {r : Reply} {after : List ℕ} → Reads b l w buffer k start end n after → n ≢ 0
-      → Refuses n r → Replies (readRun b l w k start end .answer) r buffer after
-  unfolding handed handsOver over code overlay
+      → Refuses n r → Answers (readRun b l w k start end .answer) r buffer after
+  unfolding handedOver handsOver over code overlay
   read-refused {n} {r} {after} d nz R = by-bool (liesIn (range start end) (window w k))
       (λ h. absurd (nz (d .code ∙ ap (λ (x : Ran). x .answer .code) (sym (within h)))))
       (λ h.
       let is : n ≡ Code.outsideWindow = d .code ∙ ap (λ (x : Ran). x .answer .code) (sym (outside h)) in
       let same : after ≡ buffer = d .buffer-is ∙ ap (λ (x : Ran). overlay (x .answer .bytes) buffer) (sym (outside h)) in
       replies-same (outside h)
-      (subst (λ i. Replies (code i) r buffer after) is
-      (subst (λ t. Replies (code n) r t after) same (replies-code after R))))
+      (subst (λ i. Answers (code i) r buffer after) is
+      (subst (λ t. Answers (code n) r t after) same (replies-code after R))))
 
 -- ---- receive
 
@@ -301,8 +301,8 @@ module _ {b w buffer : List ℕ} {me : ℕ} (A : ReceiveAsks b w buffer me) (l :
           length-take (lengthOf b (oldest me)) (drop (oldest me * 16) (textIn b)),
         ))
 
-    receives-of : {r : Reply} → Replies (receiveRun b l w me .answer) r buffer buffer′
-        → Receives b l w buffer me r b′ w′ buffer′
+    receives-of : {r : Reply} → Answers (receiveRun b l w me .answer) r buffer buffer′
+        → ReceiveEnds b l w buffer me r b′ w′ buffer′
     unfolding answered
     receives-of R = record {
       replies = R;
@@ -311,14 +311,14 @@ module _ {b w buffer : List ℕ} {me : ℕ} (A : ReceiveAsks b w buffer me) (l :
       words = ap (λ (x : Ran). x .words) (M .run l);
     }
 
-    pub receive-done : {r : Reply} → n ≡ 0 → Hands r sum count → Receives b l w buffer me r b′ w′ buffer′
+    pub receive-done : {r : Reply} → n ≡ 0 → Hands r sum count → ReceiveEnds b l w buffer me r b′ w′ buffer′
     unfolding answered handsOver
     receive-done {r} z H = receives-of (replies-same
         (ap (λ i. answered i sum (take count buffer′) b′ l w′) (sym z) ∙ M .run l)
         (replies-bytes (take count buffer′) buffer buffer′ (view b l w) (subst (Hands r sum) (sym (M .size)) H)
         (M .rest)))
 
-    pub receive-refused : {r : Reply} → n ≢ 0 → Refuses n r → Receives b l w buffer me r b′ w′ buffer′
+    pub receive-refused : {r : Reply} → n ≢ 0 → Refuses n r → ReceiveEnds b l w buffer me r b′ w′ buffer′
     unfolding answered over code overlay
     receive-refused {r} nz R = receives-of (by-eq (countOf b me) 0
         (λ z.
@@ -326,6 +326,6 @@ module _ {b w buffer : List ℕ} {me : ℕ} (A : ReceiveAsks b w buffer me) (l :
         let none : take count buffer′ ≡ [] = ap (λ (x : Ran). x .answer .bytes) run in
         let same : buffer′ ≡ buffer = M .rest ∙ ap (λ t. overlay t buffer) none in
         replies-same (empty z)
-        (subst (λ i. Replies (code i) r buffer buffer′) (ap (λ (x : Ran). x .answer .code) run)
-        (subst (λ t. Replies (code n) r t buffer′) same (replies-code buffer′ R))))
+        (subst (λ i. Answers (code i) r buffer buffer′) (ap (λ (x : Ran). x .answer .code) run)
+        (subst (λ t. Answers (code n) r t buffer′) same (replies-code buffer′ R))))
         (λ some-left. absurd (nz (ap (λ (x : Ran). x .answer .code) (M .run l ∙ sym (some some-left))))))

@@ -7,6 +7,7 @@ use lib.Dec.{eqb}
 use lib.ListN.{length, take, replicate}
 use Rattle.rules.specs.Rights.{Op, makeObj, read, write, capInfo, deriveCap, deleteCap, renameObj, withdraw}
 use Rattle.rules.specs.Rights.{deposit, suspend, resume, applyLock, send, receive, wait, revive, unknown, op}
+use Rattle.rules.specs.Code as Code
 use Rattle.rules.specs.Store.{State}
 use Rattle.rules.specs.Call.{Call, Answer, handsOver}
 use Rattle.call_steps.specs.declared.request.Request.{Request}
@@ -20,7 +21,7 @@ use Rattle.kernel_step.specs.Own.{ownRun}
 use Rattle.kernel_step.specs.Run.{stepRun}
 
 -- the reply and the buffer are this answer: "writes its bytes at the buffer's front and changes no later byte"
-pub record Replies (a : Answer) (r : Reply) (buffer buffer′ : List ℕ) : Type 0 where
+pub record Answers (a : Answer) (r : Reply) (buffer buffer′ : List ℕ) : Type 0 where
   pub answer : answerOf r (take (r .count) buffer′) ≡ a
   pub count : r .count ≡ length (a .bytes)
   pub buffer-is : buffer′ ≡ overlay (a .bytes) buffer
@@ -31,8 +32,8 @@ pub record Hands (r : Reply) (sum count : ℕ) : Type 0 where
   pub bytes-count : r .count ≡ count
 
 -- receive's reply and slices are those of its run
-pub record Receives (b l w buffer : List ℕ) (me : ℕ) (r : Reply) (b′ w′ buffer′ : List ℕ) : Type 0 where
-  pub replies : Replies (receiveRun b l w me .answer) r buffer buffer′
+pub record ReceiveEnds (b l w buffer : List ℕ) (me : ℕ) (r : Reply) (b′ w′ buffer′ : List ℕ) : Type 0 where
+  pub replies : Answers (receiveRun b l w me .answer) r buffer buffer′
   pub bytes : b′ ≡ receiveRun b l w me .bytes
   pub links : l ≡ receiveRun b l w me .links
   pub words : w′ ≡ receiveRun b l w me .words
@@ -61,7 +62,7 @@ clears unknown = false
 
 -- "A done delete or rename leaves the scratch all zero; every other call leaves it unchanged."
 unfoldable pub scratchAfter : Op → ℕ → List ℕ → List ℕ
-scratchAfter o code scratch = elim (clears o && eqb code 0) [
+scratchAfter o code scratch = elim (clears o && eqb code Code.done) [
   | true ↦ replicate (length scratch) 0
   | false ↦ scratch
 ]
@@ -69,7 +70,7 @@ scratchAfter o code scratch = elim (clears o && eqb code 0) [
 -- ---- a run that is over
 
 pub record Ends (c : Call) (x : Ran) (r : Reply) (was is : Slices) : Type 0 where
-  pub replies : Replies (x .answer) r (was .buffer) (is .buffer)
+  pub replies : Answers (x .answer) r (was .buffer) (is .buffer)
   pub store : Store is (x .bytes) (x .links) (x .words)
   pub scratch : is .scratch ≡ scratchAfter (op (c .number)) (x .answer .code) (was .scratch)
 

@@ -5,6 +5,7 @@ use mathlib.Core.List.{List}
 use lib.ListN.{length, take}
 use Rattle.rules.specs.Rights.{op, feeOf}
 use Rattle.rules.specs.Call.{Call, Choice}
+use Rattle.rules.specs.Code as Code
 use Rattle.rules.specs.Refusals.{caller}
 use Rattle.rules.specs.Rule.{rule}
 use Rattle.rules.specs.Demand.{Allowed}
@@ -19,13 +20,13 @@ use Rattle.kernel_step.specs.Slices.{Slices, Store, stateOf, callOn}
 use Rattle.kernel_step.specs.Ends.{scratchAfter, StepEnds}
 
 -- what a refusal leaves of the store's slices
-pub record Refuses (c : Call) (code : ℕ) (was is : Slices) : Type 0 where
+pub record RefusalLeaves (c : Call) (code : ℕ) (was is : Slices) : Type 0 where
   -- 2 and 3 change nothing
-  pub nothing : 1 ≤ code → code < 4 → Store is (was .bytes) (was .links) (was .words)
+  pub nothing : Code.illFormed ≤ code → code < Code.cannotPay → Store is (was .bytes) (was .links) (was .words)
   -- 4 marks the caller terminated
-  pub marks : code ≡ 4 → Store is (terminatedBytes (was .bytes) (caller (stateOf was) c)) (was .links) (was .words)
+  pub marks : code ≡ Code.cannotPay → Store is (terminatedBytes (was .bytes) (caller (stateOf was) c)) (was .links) (was .words)
   -- later ones move only the fee
-  pub fee : 4 < code
+  pub fee : Code.cannotPay < code
       → Store is (was .bytes) (was .links) (paidWords (was .words) (caller (stateOf was) c) (feeOf (c .number)))
 
 -- the bytes at the buffer's front that the reply counts
@@ -44,7 +45,7 @@ pub record Steps (c : Call) (r : Reply) (was is : Slices) : Type 0 where
   pub count : length (front r is) ≡ r .count
   pub buffer-is : is .buffer ≡ overlay (front r is) (was .buffer)
   pub scratch-is : is .scratch ≡ scratchAfter (op (c .number)) (r .code) (was .scratch)
-  pub refused : Refuses c (r .code) was is
+  pub refused : RefusalLeaves c (r .code) was is
   -- the blocks of an object that the call made were free
   pub blocks : NewWereFree (was .links) (is .links)
 

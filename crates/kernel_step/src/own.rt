@@ -8,7 +8,7 @@ use crate::replies;
 use call_delete::delete_cap;
 use call_derive::derive_cap;
 use call_mail::send::send;
-use call_make::make::make_obj;
+use call_make::make_obj;
 use call_marks::lock::apply_lock;
 use call_marks::mark::resume;
 use call_marks::mark::suspend;
@@ -21,7 +21,7 @@ use call_transfer::write::write;
 use values::code::OUT_OF_RANGE;
 
 // The call's own part; slot me is the caller's, slot k that of the capability presented.
-pub fn own(
+pub(crate) fn own(
     bytes: &mut [u8],
     links: &mut [u16],
     words: &mut [u32],

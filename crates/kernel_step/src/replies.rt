@@ -5,7 +5,7 @@ ghost use mathlib.Core.List.{List};
 ghost use Rattle.call_marks.specs.Runs.{InfoAsks, infoRun};
 ghost use Rattle.call_transfer.specs.Runs.{ReadAsks, readRun};
 ghost use Rattle.call_mail.specs.Runs.{ReceiveAsks};
-ghost use Rattle.kernel_step.specs.Ends.{Replies, Hands, Receives};
+ghost use Rattle.kernel_step.specs.Ends.{Answers, Hands, ReceiveEnds};
 use call_steps::request::Capability;
 use call_steps::request::Name;
 use call_steps::request::Reply;
@@ -33,7 +33,7 @@ fn hands_over(sum: u32, count: u32) -> Reply
 }
 
 // The bytes of the range, of the object that capability k is for.
-pub fn read(
+pub(crate) fn read(
     bytes: &[u8],
     links: &[u16],
     words: &[u32],
@@ -42,7 +42,7 @@ pub fn read(
     range: Window,
 ) -> Reply
     requires { ⌜ ReadAsks (now bytes) (now links) (now words) (now buffer) k (range .start) (range .end) ⌝ }
-    ensures { λ r. ⌜ Replies (readRun (now (bytes .entry)) (now (links .entry)) (now (words .entry)) k (range .start) (range .end) .answer)
+    ensures { λ r. ⌜ Answers (readRun (now (bytes .entry)) (now (links .entry)) (now (words .entry)) k (range .start) (range .end) .answer)
         r (now (buffer .entry)) (now (buffer .exit)) ⌝ }
 {
     let code = call_transfer::read::read(bytes, links, words, buffer, k, range.start, range.end);
@@ -53,9 +53,9 @@ pub fn read(
 }
 
 // The oldest message of the caller, in slot me.
-pub fn receive(bytes: &mut [u8], words: &mut [u32], buffer: &mut [u8], me: usize) -> Reply
+pub(crate) fn receive(bytes: &mut [u8], words: &mut [u32], buffer: &mut [u8], me: usize) -> Reply
     requires { ⌜ ReceiveAsks (now bytes) (now words) (now buffer) me ⌝ }
-    ensures { λ r. ⌜ ((l : List ℕ) → Receives (now (bytes .entry)) l (now (words .entry)) (now (buffer .entry)) me r
+    ensures { λ r. ⌜ ((l : List ℕ) → ReceiveEnds (now (bytes .entry)) l (now (words .entry)) (now (buffer .entry)) me r
         (now (bytes .exit)) (now (words .exit)) (now (buffer .exit))) ⌝ }
 {
     let m = call_mail::receive::receive(bytes, words, buffer, me);
@@ -66,10 +66,10 @@ pub fn receive(bytes: &mut [u8], words: &mut [u32], buffer: &mut [u8], me: usize
 }
 
 // The window length and the moneyword of the capability in slot k.
-pub fn cap_info(words: &[u32], k: usize) -> Reply
+pub(crate) fn cap_info(words: &[u32], k: usize) -> Reply
     requires { ⌜ InfoAsks (now words) k ⌝ }
     ensures { λ r. ⌜ ((b l buffer : List ℕ)
-        → Replies (infoRun b l (now (words .entry)) k .answer) r buffer buffer) ⌝ }
+        → Answers (infoRun b l (now (words .entry)) k .answer) r buffer buffer) ⌝ }
 {
     let info = call_marks::info::cap_info(words, k);
     Reply {

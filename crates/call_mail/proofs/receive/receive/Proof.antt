@@ -75,7 +75,7 @@ slice-read-words : tie.Need-slice-read-words
 slice-read-words c = search needs
 
 add-words-2 : tie.Need-add-words-2
-add-words-2 c = omega (arith, fits (c .before .before .before .before .before .before .before .before))
+add-words-2 c = omega (arith, fits (c .before .before .before .before .before .before .before .before .before))
 
 add-words-3 : tie.Need-add-words-3
 add-words-3 c = search needs
@@ -88,7 +88,7 @@ slice-write-words c = search needs
 
 move-down-requires : tie.Need-move-down-requires
 move-down-requires c κs =
-    let pre = entry (c .before .before .before .before .before .before .before .before .before .before) .pre in
+    let pre = entry (c .before .before .before .before .before .before .before .before .before .before .before) .pre in
     record {
       bytes = pre .bytes;
       words = simp length-set (pre .words);
@@ -110,7 +110,7 @@ same-length c = search needs
 same-length-2 : tie.Need-same-length-2
 same-length-2 c =
     let m : tie.After-move-down = c .before .before .before .before in
-    let a = entry (m .before .before .before .before .before .before .before .before .before .before .before) .args in
+    let a = entry (m .before .before .before .before .before .before .before .before .before .before .before .before) .args in
     moved-words-length (m .move-down .ensures)
     ∙ length-set (a .words .now) (Layout.CASH + a .me)
     (getD (a .words .now) (Layout.CASH + a .me) 0 + getD (a .words .now) (Layout.SUM + a .me * 4) 0)
@@ -121,7 +121,7 @@ same-length-3 c = search needs
 returns-2 : tie.Need-returns-2
 returns-2 c =
     let m : tie.After-move-down = c .before .before .before .before in
-    let copied : tie.After-copy = m .before .before .before .before .before .before in
+    let copied : tie.After-copy = m .before .before .before .before .before .before .before in
     let e = copied .before .before .before .before .before in
     receive-done (entry e .pre) (e .if1 .left) (copied .copy .ensures) (m .move-down .ensures)
 

@@ -6,19 +6,19 @@ use borrow.Author.Needs.{needs}
 use Rattle.call_marks.proofs.lock.apply_lock.Statement.{statement}
 use Rattle.call_marks.proofs.lock.apply_lock.Tie as tie
 
-abbrev entry : tie.After-is-process → tie.Start
+abbrev entry : tie.After-has-flag → tie.Start
 entry c = c .before .before .before .before .before
 
-found : (c : tie.After-is-process)
+found : (c : tie.After-has-flag)
     → Found (entry c .args .bytes .now) (entry c .args .links .now) (entry c .args .k)
-    (c .before .target .result) (c .is-process .result)
-found c = record { target = c .before .target .ensures; process = c .is-process .ensures }
+    (c .before .target .result) (c .has-flag .result)
+found c = record { target = c .before .target .ensures; process = c .has-flag .ensures }
 
 target-requires : tie.Need-target-requires
 target-requires c κs = search needs
 
-is-process-requires : tie.Need-is-process-requires
-is-process-requires c κs = search needs
+has-flag-requires : tie.Need-has-flag-requires
+has-flag-requires c κs = search needs
 
 add-first : tie.Need-add-first
 add-first c = search needs
@@ -85,7 +85,7 @@ apply-lock-spec =
     tie.close
     (tie.spec
     target-requires
-    is-process-requires
+    has-flag-requires
     add-first
     mul-first
     slice-read-first

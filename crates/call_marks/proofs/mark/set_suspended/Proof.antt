@@ -4,19 +4,19 @@ use Rattle.call_marks.proofs.Stops.{Found, suspended-met, suspended-don
 use Rattle.call_marks.proofs.mark.set_suspended.Statement.{statement}
 use Rattle.call_marks.proofs.mark.set_suspended.Tie as tie
 
-abbrev entry : tie.After-is-process → tie.Start
+abbrev entry : tie.After-has-flag → tie.Start
 entry c = c .before .before .before .before .before
 
-found : (c : tie.After-is-process)
+found : (c : tie.After-has-flag)
     → Found (entry c .args .bytes .now) (entry c .args .links .now) (entry c .args .k)
-    (c .before .before .target .result) (c .is-process .result)
-found c = record { target = c .before .before .target .ensures; process = c .is-process .ensures }
+    (c .before .before .target .result) (c .has-flag .result)
+found c = record { target = c .before .before .target .ensures; process = c .has-flag .ensures }
 
 target-requires : tie.Need-target-requires
 target-requires c κs = search needs
 
-is-process-requires : tie.Need-is-process-requires
-is-process-requires c κs = search needs
+has-flag-requires : tie.Need-has-flag-requires
+has-flag-requires c κs = search needs
 
 add-bytes : tie.Need-add-bytes
 add-bytes c = search needs
@@ -41,7 +41,7 @@ set-suspended-spec =
     tie.close
     (tie.spec
     target-requires
-    is-process-requires
+    has-flag-requires
     add-bytes
     slice-write-bytes
     same-length

@@ -9,14 +9,14 @@ use borrow.Author.Needs.{needs}
 use Rattle.call_marks.proofs.revive.revive.Statement.{statement}
 use Rattle.call_marks.proofs.revive.revive.Tie as tie
 
-abbrev entry : tie.After-is-process → tie.Start
+abbrev entry : tie.After-has-flag → tie.Start
 entry c = c .before .before .before .before .before .before
 
-reviving : (c : tie.After-is-process)
+reviving : (c : tie.After-has-flag)
     → Reviving (entry c .args .bytes .now) (entry c .args .links .now) (entry c .args .words .now) (entry c .args .me)
-    (entry c .args .k) (entry c .args .sum) (c .before .before .target .result) (c .is-process .result)
+    (entry c .args .k) (entry c .args .sum) (c .before .before .target .result) (c .has-flag .result)
 reviving c = record {
-  found = record { target = c .before .before .target .ensures; process = c .is-process .ensures };
+  found = record { target = c .before .before .target .ensures; process = c .has-flag .ensures };
   target = entry c .pre .target;
   caller = entry c .pre .caller;
 }
@@ -28,8 +28,8 @@ passed c = c .before .before
 target-requires : tie.Need-target-requires
 target-requires c κs = search needs
 
-is-process-requires : tie.Need-is-process-requires
-is-process-requires c κs = search needs
+has-flag-requires : tie.Need-has-flag-requires
+has-flag-requires c κs = search needs
 
 add-if2 : tie.Need-add-if2
 add-if2 c = search needs
@@ -118,7 +118,7 @@ revive-spec =
     tie.close
     (tie.spec
     target-requires
-    is-process-requires
+    has-flag-requires
     add-if2
     slice-read-if2
     same-length

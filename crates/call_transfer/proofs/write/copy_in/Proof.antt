@@ -12,11 +12,11 @@ use Rattle.call_transfer.proofs.write.copy_in.Statement.{statement}
 use Rattle.call_transfer.proofs.write.copy_in.Tie as tie
 
 abbrev Inv-loop : tie.InvT-loop
-Inv-loop bytes₀ links source head start block₀ i₀ bytes block i =
-    Walking links head start (length source) i block × (bytes ≡ copiedIn links head start source i bytes₀)
+Inv-loop bytes₀ links text head start block₀ i₀ bytes block i =
+    Walking links head start (length text) i block × (bytes ≡ copiedIn links head start text i bytes₀)
 
 abbrev μ-loop : tie.MeasureT-loop
-μ-loop bytes₀ links source head start block₀ i₀ bytes block i = length source - i
+μ-loop bytes₀ links text head start block₀ i₀ bytes block i = length text - i
 
 -- the block is there
 here : (c : tie.In-loop Inv-loop μ-loop) → (1 ≤ c .before .loop .block) × (c .before .loop .block ≤ 512)
@@ -81,9 +81,9 @@ loop-again c =
     let w = now .inv .0 in
     let part = u .part-of .ensures in (
       walk-on (s .pre) w (v .loop-test .taken) _ part _ (c .next-block .ensures),
-      laid-more (λ i. cellOf (a .links .now) (a .head) (a .start + i)) (λ i. getD (a .source .now) i 0)
+      laid-more (λ i. cellOf (a .links .now) (a .head) (a .start + i)) (λ i. getD (a .text .now) i 0)
           (λ j. Layout.DATA + now .block * 64 + (a .start + now .i) % 64 + j)
-          (λ j. getD (a .source .now) (now .i + j) 0)
+          (λ j. getD (a .text .now) (now .i + j) 0)
           (a .bytes .now) (now .bytes) _ (now .i) _ (now .inv .1) (c .before .before .before .copy-part .ensures)
           (λ j h. part-cell (s .pre) w (v .loop-test .taken) _ part j h)
           (λ j h. refl),
@@ -96,8 +96,8 @@ returns : tie.Need-returns Inv-loop μ-loop
 returns c =
     let a = c .before .before .before .before .before .before .args in
     let now = c .before .loop in
-    let e : now .i ≡ length (a .source .now) = omega (arith, now .inv .0 .below) in
-    now .inv .1 ∙ ap (λ x. copiedIn (a .links .now) (a .head) (a .start) (a .source .now) x (a .bytes .now)) e
+    let e : now .i ≡ length (a .text .now) = omega (arith, now .inv .0 .below) in
+    now .inv .1 ∙ ap (λ x. copiedIn (a .links .now) (a .head) (a .start) (a .text .now) x (a .bytes .now)) e
 
 pub copy-in-spec : {M : Type 1} → statement M
 copy-in-spec =

@@ -7,8 +7,8 @@ use Rattle.call_make.specs.Runs.{noSpace}
 use mathlib.Core.Path.{_≡_, sym, ap, _∙_}
 use Rattle.call_make.proofs.Placing.{place-asks, name-refused, space-refused, made-is}
 use borrow.Author.Needs.{needs}
-use Rattle.call_make.proofs.make.make_obj.Statement.{statement}
-use Rattle.call_make.proofs.make.make_obj.Tie as tie
+use Rattle.call_make.proofs.make_obj.Statement.{statement}
+use Rattle.call_make.proofs.make_obj.Tie as tie
 
 abbrev entry : tie.Then1 → tie.Start
 entry c = c .before .before .before .before .before .before .before .before

@@ -8,7 +8,7 @@ ghost use Rattle.call_steps.specs.Tests.{ObjectSlot};
 use layout::FLAG;
 
 // The object in slot o has a process's flag.
-pub fn is_process(bytes: &[u8], o: usize) -> bool
+pub(crate) fn has_flag(bytes: &[u8], o: usize) -> bool
     requires { ⌜ length (now bytes) ≡ Layout.BYTES ⌝ ∗ ⌜ ObjectSlot o ⌝ }
     ensures { λ r. ⌜ r ≡ isSet (flagOf (now (bytes .entry)) o) ⌝ }
 {
