@@ -9,10 +9,10 @@ use harness::kernel::{self, FormedStore};
 use harness::request::{Request, REPLY};
 use reference::call::{Action, Call, Key, Name, Operation};
 use reference::numbers::MAX_RIGHTS;
+use std::time::Instant;
 use trials::layout::{BYTES, LINKS, WORDS};
 use trials::random::Random;
 use trials::raw::RawStore;
-use std::time::Instant;
 
 /// Each kind has so many turns, and so many rounds of its calls in a turn.
 const TURNS: usize = 11;
@@ -128,14 +128,26 @@ fn cases(hall: &Hall) -> Vec<Case> {
     add("make_obj of 8,192 bytes", store, makes(2, 8192));
     add("read of 16 bytes", store, each(Action::Read { start: 100, end: 116 }));
     add("read of 256 bytes at 7,900", store, each(Action::Read { start: 7900, end: 8156 }));
-    add("write of 16 bytes", store, each(Action::Write { start: 100, end: 116, data: vec![7; 16] }));
+    add(
+        "write of 16 bytes",
+        store,
+        each(Action::Write { start: 100, end: 116, data: vec![7; 16] }),
+    );
     let write = Action::Write { start: 7900, end: 8156, data: vec![7; 256] };
     add("write of 256 bytes at 7,900", store, each(write));
     add("cap_info", store, each(Action::CapInfo));
     add("derive_cap", store, derives().collect());
-    add("delete_cap of a leaf", store, leaves.iter().map(|key| on(*key, Action::DeleteCap)).collect());
+    add(
+        "delete_cap of a leaf",
+        store,
+        leaves.iter().map(|key| on(*key, Action::DeleteCap)).collect(),
+    );
     let turn = |(derive, key): (Request, &Key)| [derive, on(*key, Action::DeleteCap)];
-    add("derive_cap and delete_cap by turns", store, derives().zip(&children).flat_map(turn).collect());
+    add(
+        "derive_cap and delete_cap by turns",
+        store,
+        derives().zip(&children).flat_map(turn).collect(),
+    );
     add("rename_obj without descendants", store, to_each(Action::RenameObj { p1: 3, p2: 3 }));
     add("deposit (random tree)", store, each(Action::Deposit { sum: 1 }));
     add("withdraw of 0 (random tree)", store, each(Action::Withdraw { sum: 0 }));
@@ -153,7 +165,8 @@ fn cases(hall: &Hall) -> Vec<Case> {
     let revives: Vec<Request> = to_each(Action::Revive { sum: 1000 });
     revives.iter().for_each(|request| rich.run(request));
     let receives = own(Operation::Receive);
-    let turns = send.iter().zip(&receives).flat_map(|(send, receive)| [send.clone(), receive.clone()]);
+    let turns =
+        send.iter().zip(&receives).flat_map(|(send, receive)| [send.clone(), receive.clone()]);
     add("send and receive by turns", &rich.store, turns.collect());
     sends.iter().for_each(|request| rich.run(request));
     add("receive of 16 bytes", &rich.store, receives);
