@@ -24,6 +24,8 @@ fn numbers_are_the_kernels() {
     let mut kernel = constants(CODES);
     assert_eq!(kernel.len(), 17);
     kernel.extend(constants(LIMITS));
+    // of a line's bytes, which the reference has by their type
+    assert_eq!(kernel.remove("MAX_BYTE"), Some(u64::from(u8::MAX)));
     let mut ours = constants(outer);
     // of scripts, which `values` knows nothing of
     assert_eq!(ours.remove("MAX_LINE"), Some(2_048));
