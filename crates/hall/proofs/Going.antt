@@ -1,7 +1,7 @@
 -- What the driver's turns keep of where the program stands.
 use Prim.Native.Nat.{ℕ, _+_, _-_, _*_, _≤_, _<_}
 use mathlib.Core.Path.{_≡_, refl, sym, ap, _∙_, subst}
-use mathlib.Core.Bool.{true}
+use mathlib.Core.Bool.{true, false, true≢false}
 use mathlib.Core.List.{List, [], _++_, append-assoc, append-nil}
 use native.Mathlib.Omega.{arith}
 use lib.ListN.{length, take, drop, length-drop, length-append, drop-of-length-le}
@@ -186,6 +186,11 @@ turned {s₀} {s} {held₀} {out₀} {held} {out = out} {x = x} {y = y} got f w 
   got = got;
   passed = λ e. subst (λ (v : List ℕ). Passed s₀ held₀ v out₀ x s held out y) w (f .passed e);
 }
+
+-- at the end of the input nothing is fed
+pub turned-end : {s₀ s : Store} {held₀ out₀ held ns ts bs ss input₀ input out : List ℕ} {x y : Stand}
+    → FedAll s held ns ts bs ss input₀ out x y → y .going ≡ false → Turned s₀ held₀ out₀ s held ns ts bs ss input₀ input out x y
+turned-end f e = record { fed = f; got = 0; passed = λ t. absurd (true≢false (sym t ∙ e)) }
 
 -- ---- the end of the input
 

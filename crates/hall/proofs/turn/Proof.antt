@@ -1,10 +1,9 @@
 -- `turn` feeds what was read, or ends the run.
 use Prim.Native.Nat.{_≤_}
 use mathlib.Core.Path.{refl, sym, _∙_}
-use mathlib.Core.Bool.{false≢true}
 use native.Mathlib.Omega.{arith}
 use lib.ListN.{length}
-use Rattle.hall.proofs.Going.{turned}
+use Rattle.hall.proofs.Going.{turned, turned-end}
 use borrow.Author.Needs.{needs}
 use Rattle.hall.proofs.turn.Statement.{statement}
 use Rattle.hall.proofs.turn.Tie as tie
@@ -101,23 +100,21 @@ returns-2 : tie.Need-returns-2
 returns-2 c =
     let e = c .before .before .before .before .before .before .before .before .before .before .before .before .before .before .before .before .before in
     let a = e .before .before .before .before .before .before .before .before .before .before .before .before .before .before .before .before .before .before .before .before .before .before .before .before .before .before .before .pre .stands in
-    record {
-      fed = record {
-        stands = record { formed = e .end .ensures; size = a .stands .size; few = a .stands .few };
-        working = record {
-          numbers = e .end .kept .1 .1 .1 .0 ∙ a .working .numbers;
-          lent = record {
-            text = e .end .kept .1 .1 .1 .1 .0 ∙ a .working .lent .text;
-            buffer = e .end .kept .1 .1 .1 .1 .1 .0 ∙ a .working .lent .buffer;
-            scratch = e .end .kept .1 .1 .1 .1 .1 .1 .0 ∙ a .working .lent .scratch;
-          };
+    turned-end
+    (record {
+      stands = record { formed = e .end .ensures; size = a .stands .size; few = a .stands .few };
+      working = record {
+        numbers = e .end .kept .1 .1 .1 .0 ∙ a .working .numbers;
+        lent = record {
+          text = e .end .kept .1 .1 .1 .1 .0 ∙ a .working .lent .text;
+          buffer = e .end .kept .1 .1 .1 .1 .1 .0 ∙ a .working .lent .buffer;
+          scratch = e .end .kept .1 .1 .1 .1 .1 .1 .0 ∙ a .working .lent .scratch;
         };
-        output = record { size = e .end .kept .1 .1 .1 .1 .1 .1 .1 .1 .0 ∙ a .output .size; placed = omega arith };
-        number = omega arith;
       };
-      got = 0;
-      passed = λ e. absurd (false≢true e);
-    }
+      output = record { size = e .end .kept .1 .1 .1 .1 .1 .1 .1 .1 .0 ∙ a .output .size; placed = omega arith };
+      number = omega arith;
+    })
+    refl
 
 pub turn-spec : {M : Type 1} → statement M
 turn-spec =
