@@ -1,25 +1,78 @@
 -- What the driver's turns keep of where the program stands.
 use Prim.Native.Nat.{ℕ, _+_, _-_, _*_, _≤_, _<_}
 use mathlib.Core.Path.{_≡_, refl, sym, ap, _∙_, subst}
-use mathlib.Core.List.{List}
+use mathlib.Core.Bool.{true, false, true≢false}
+use mathlib.Core.List.{List, [], _++_, append-assoc, append-nil}
 use native.Mathlib.Omega.{arith}
-use lib.ListN.{length, take, drop, length-drop}
-use lib.Seq.{length-take-le}
+use lib.ListN.{length, take, drop, length-drop, length-append, drop-of-length-le}
+use lib.Seq.{length-take-le, take-all, take-at, drop-drop}
+use Rattle.script_text.specs.Pasted.{pasted, Wrote}
 use Rattle.script_play.specs.Plays.{Working}
-use Rattle.script_driver.specs.Turns.{HELD, ANSWER}
-use Rattle.script_driver.specs.Stores.{Store}
+use Rattle.script_driver.specs.Turns.{HELD, ANSWER, At, Feeds}
+use Rattle.script_driver.specs.Stores.{Store, stores}
 use Rattle.script_driver.specs.Contract as Contract
-use Rattle.script_driver.specs.Contract.{LAST, ROOM, Feeding, FeedAsks, FinishAsks}
+use Rattle.script_driver.specs.Contract.{LAST, ROOM, stageOf, heldIn, Feeding, FeedAsks, FinishAsks}
 use Rattle.script_driver.specs.declared.Run.{Run}
 use Rattle.script_driver.specs.declared.Fed.{Fed}
 use Rattle.script_driver.specs.Parts.{runOf, fedOf}
 use Rattle.script_driver.proofs.Going.{feeds-within, feeds-some}
 use Rattle.hall.specs.declared.Stand.{Stand}
-use Rattle.hall.specs.Runs.{BUFFER, TURNS, Placed, Roomy, Stands, FeedsAll, FedAll, Begins}
+use Rattle.hall.specs.Runs.{BUFFER, TURNS, Placed, Roomy, Stands, FeedsAll, FedAll, Begins, pending, stage, line, Comes, none, turn, Passed, AllFed, Turned}
+
+-- ---- where all that was pending is handed over
+
+pub room-made : {out : List ℕ} {x : Stand} (y : Stand) → Placed out x → y .run ≡ x .run → y .at ≡ 0 → Roomy out x y
+room-made {out} {x} y a e p = record {
+  room = omega (arith, a .size, p);
+  run = e;
+  written = pending x out;
+  kept = sym (ap (λ (k : ℕ). pending x out ++ take k out) p ∙ append-nil (pending x out));
+}
+
+-- ---- what was fed of a window, and what came of it
+
+-- the bytes before place `from` were fed: with what comes of the others, that is what comes of the window
+pub record Front (s₀ : Store) (held₀ out₀ : List ℕ) (x₀ : Stand) (s : Store) (held window out : List ℕ) (x : Stand) (from : ℕ) : Type 0 where
+  pub said : List ℕ
+  pub written : List ℕ
+  pub comes : {text l′ : List ℕ} {g′ : At stores} → Comes (stage x s) (line x held) (drop from window) text g′ l′
+      → Comes (stage x₀ s₀) (line x₀ held₀) window (said ++ text) g′ l′
+  pub kept : pending x₀ out₀ ++ said ≡ written ++ pending x out
+
+pub front-start : {s : Store} {held window out : List ℕ} {x : Stand} → Front s held out x s held window out x 0
+front-start {out = out} {x} = record { said = []; written = []; comes = λ d. d; kept = append-nil (pending x out) }
+
+pub front-done : {s₀ s : Store} {held₀ out₀ held window out : List ℕ} {x₀ x : Stand} {from : ℕ}
+    → Front s₀ held₀ out₀ x₀ s held window out x from → length window ≤ from → Passed s₀ held₀ window out₀ x₀ s held out x
+front-done {s₀} {s} {held₀} {out₀} {held} {window} {out} {x₀} {x} {from} f h = record {
+  text = f .said;
+  written = f .written;
+  comes = subst (λ (t : List ℕ). Comes (stage x₀ s₀) (line x₀ held₀) window t (stage x s) (line x held)) (append-nil (f .said))
+      (f .comes (subst (λ (w : List ℕ). Comes (stage x s) (line x held) w [] (stage x s) (line x held)) (sym (drop-of-length-le window h)) none));
+  kept = f .kept;
+}
+
+-- what is in the buffer after a text was put into it
+pub wrote-pending : {out text out′ : List ℕ} {at r : ℕ} → Wrote out at text out′ r → at ≤ length out → take r out′ ≡ take at out ++ text
+unfolding pasted
+wrote-pending {out} {text} {out′} {at} {r} w h =
+    ap (λ (l : List ℕ). take r l) (w .is)
+    ∙ take-at (take at out ++ text) (drop (at + length text) out) r
+    (length-append (take at out) text ∙ ap (λ (n : ℕ). n + length text) (length-take-le at out h) ∙ sym (w .end))
+
+-- written, then pending; then more is written, and a text is put after it
+parts-join : (p said w q v r t z : List ℕ) → p ++ said ≡ w ++ q → q ≡ v ++ r → z ≡ r ++ t → p ++ (said ++ t) ≡ (w ++ v) ++ z
+parts-join p said w q v r t z a b e =
+    sym (append-assoc p said t)
+    ∙ ap (λ (l : List ℕ). l ++ t) a
+    ∙ ap (λ (l : List ℕ). (w ++ l) ++ t) b
+    ∙ ap (λ (l : List ℕ). l ++ t) (sym (append-assoc w v r))
+    ∙ append-assoc (w ++ v) r t
+    ∙ ap (λ (l : List ℕ). (w ++ v) ++ l) (sym e)
 
 -- ---- the loop over what was read: the bytes before place `from` were fed
 
-pub record Going (s : Store) (held ns ts bs ss window out : List ℕ) (x₀ x : Stand) (from : ℕ) : Type 0 where
+pub record Going (s₀ : Store) (held₀ out₀ : List ℕ) (s : Store) (held ns ts bs ss window out : List ℕ) (x₀ x : Stand) (from : ℕ) : Type 0 where
   pub stands : Contract.Stands s held (runOf (x .run))
   pub working : Working ns ts bs ss
   pub output : Placed out x
@@ -27,9 +80,10 @@ pub record Going (s : Store) (held ns ts bs ss window out : List ℕ) (x₀ x : 
   pub within : from ≤ length window
   pub few : length window ≤ BUFFER
   pub counted : x₀ .run .number + BUFFER ≤ LAST
+  pub front : Front s₀ held₀ out₀ x₀ s held window out x from
 
 pub going-start : {s : Store} {held ns ts bs ss window out : List ℕ} {x : Stand} → FeedsAll s held ns ts bs ss window out x
-    → Going s held ns ts bs ss window out x x 0
+    → Going s held out s held ns ts bs ss window out x x 0
 going-start a = record {
   stands = a .stands .stands;
   working = a .stands .working;
@@ -38,6 +92,7 @@ going-start a = record {
   within = omega arith;
   few = a .few;
   counted = a .stands .counted;
+  front = front-start;
 }
 
 -- what is left of the window
@@ -47,8 +102,11 @@ rest window from = take (length window - from) (drop from window)
 pub rest-length : (window : List ℕ) (from : ℕ) → length (rest window from) ≡ length window - from
 rest-length window from = length-take-le (length window - from) (drop from window) (omega (arith, length-drop from window))
 
-module _ {s : Store} {held ns ts bs ss window out : List ℕ} {x₀ x y : Stand} {from : ℕ}
-    (g : Going s held ns ts bs ss window out x₀ x from) (r : Roomy out x y) where
+pub rest-all : (window : List ℕ) (from : ℕ) → rest window from ≡ drop from window
+rest-all window from = take-all (length window - from) (drop from window) (omega (arith, length-drop from window))
+
+module _ {s₀ s : Store} {held₀ out₀ held ns ts bs ss window out : List ℕ} {x₀ x y : Stand} {from : ℕ}
+    (g : Going s₀ held₀ out₀ s held ns ts bs ss window out x₀ x from) (r : Roomy out x y) where
   same : runOf (y .run) ≡ runOf (x .run)
   same = ap runOf (r .run)
 
@@ -73,8 +131,30 @@ module _ {s : Store} {held ns ts bs ss window out : List ℕ} {x₀ x y : Stand}
     pub taken-within : from + q .taken ≤ length window
     taken-within = omega (arith, feeds-within (f .feeds), rest-length window from)
 
+    -- the same feed, from where the run stood before room was made, of what is left of the window
+    fed : Feeds stores (length out - y .at) (stage x s) (line x held) (drop from window) (q .taken) (f .text)
+        (stageOf (runOf (q .run)) s′) (heldIn (runOf (q .run)) held′)
+    fed = subst (λ (w : List ℕ). Feeds stores (length out - y .at) (stage x s) (line x held) w (q .taken) (f .text)
+        (stageOf (runOf (q .run)) s′) (heldIn (runOf (q .run)) held′)) (rest-all window from)
+        (subst (λ (t : Contract.Run). Feeds stores (length out - y .at) (stageOf t s) (heldIn t held) (rest window from) (q .taken) (f .text)
+        (stageOf (runOf (q .run)) s′) (heldIn (runOf (q .run)) held′)) same (f .feeds))
+
+    front-on : (z : Stand) → z .run ≡ q .run → z .at ≡ q .at → Front s₀ held₀ out₀ x₀ s′ held′ window out′ z (from + q .taken)
+    front-on z e p = record {
+      said = g .front .said ++ f .text;
+      written = g .front .written ++ r .written;
+      comes = λ {text} {l′} {g′} d.
+          subst (λ (t : List ℕ). Comes (stage x₀ s₀) (line x₀ held₀) window t g′ l′) (sym (append-assoc (g .front .said) (f .text) text))
+          (g .front .comes (turn fed
+          (subst (λ (w : List ℕ). Comes (stageOf (runOf (q .run)) s′) (heldIn (runOf (q .run)) held′) w text g′ l′)
+          (sym (drop-drop (q .taken) from window))
+          (subst (λ (t : Run). Comes (stageOf (runOf t) s′) (heldIn (runOf t) held′) (drop (from + q .taken) window) text g′ l′) e d))));
+      kept = parts-join (pending x₀ out₀) (g .front .said) (g .front .written) (pending x out) (r .written) (pending y out) (f .text) (pending z out′)
+          (g .front .kept) (r .kept) (ap (λ (k : ℕ). take k out′) p ∙ wrote-pending (f .wrote) (omega (arith, r .room)));
+    }
+
     pub going-on : {ns′ ts′ bs′ ss′ : List ℕ} (z : Stand) → z .run ≡ q .run → z .at ≡ q .at → length out′ ≡ length out → Working ns′ ts′ bs′ ss′
-        → Going s′ held′ ns′ ts′ bs′ ss′ window out′ x₀ z (from + q .taken)
+        → Going s₀ held₀ out₀ s′ held′ ns′ ts′ bs′ ss′ window out′ x₀ z (from + q .taken)
     going-on z e p long w = record {
       stands = subst (Contract.Stands s′ held′) (sym (ap runOf e)) (f .stands);
       working = w;
@@ -83,20 +163,34 @@ module _ {s : Store} {held ns ts bs ss window out : List ℕ} {x₀ x y : Stand}
       within = taken-within;
       few = g .few;
       counted = g .counted;
+      front = front-on z e p;
     }
 
-pub going-done : {s : Store} {held ns ts bs ss window out : List ℕ} {x₀ x : Stand} {from : ℕ}
-    → Going s held ns ts bs ss window out x₀ x from → FedAll s held ns ts bs ss window out x₀ x
-going-done g = record {
-  stands = g .stands;
-  working = g .working;
-  output = g .output;
-  number = omega (arith, g .number, g .within);
+pub going-done : {s₀ s : Store} {held₀ out₀ held ns ts bs ss window out : List ℕ} {x₀ x : Stand} {from : ℕ}
+    → Going s₀ held₀ out₀ s held ns ts bs ss window out x₀ x from → (x .going ≡ true → length window ≤ from)
+    → AllFed s₀ held₀ out₀ s held ns ts bs ss window out x₀ x
+going-done g all = record {
+  fed = record { stands = g .stands; working = g .working; output = g .output; number = omega (arith, g .number, g .within) };
+  passed = λ e. front-done (g .front) (all e);
 }
 
 pub fed-more : {s : Store} {held ns ts bs ss window more out : List ℕ} {x y : Stand} → FedAll s held ns ts bs ss window out x y
     → length window ≤ length more → FedAll s held ns ts bs ss more out x y
 fed-more f h = record { stands = f .stands; working = f .working; output = f .output; number = omega (arith, f .number) }
+
+pub turned : {s₀ s : Store} {held₀ out₀ held ns ts bs ss window input₀ input out : List ℕ} {x y : Stand} (got : ℕ)
+    → AllFed s₀ held₀ out₀ s held ns ts bs ss window out x y → window ≡ take got input → length window ≤ length input₀
+    → Turned s₀ held₀ out₀ s held ns ts bs ss input₀ input out x y
+turned {s₀} {s} {held₀} {out₀} {held} {out = out} {x = x} {y = y} got f w h = record {
+  fed = fed-more (f .fed) h;
+  got = got;
+  passed = λ e. subst (λ (v : List ℕ). Passed s₀ held₀ v out₀ x s held out y) w (f .passed e);
+}
+
+-- at the end of the input nothing is fed
+pub turned-end : {s₀ s : Store} {held₀ out₀ held ns ts bs ss input₀ input out : List ℕ} {x y : Stand}
+    → FedAll s held ns ts bs ss input₀ out x y → y .going ≡ false → Turned s₀ held₀ out₀ s held ns ts bs ss input₀ input out x y
+turned-end f e = record { fed = f; got = 0; passed = λ t. absurd (true≢false (sym t ∙ e)) }
 
 -- ---- the end of the input
 

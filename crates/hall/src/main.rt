@@ -2,7 +2,7 @@
 // Here are the buffers, the reading and the writing; what becomes of what is read is `script_driver`'s.
 ghost use Rattle.script_driver.specs.Stores.{Formed};
 ghost use Rattle.script_driver.specs.Parts.{store};
-ghost use Rattle.hall.specs.Runs.{Placed, Roomy, Stands, FeedsAll, FedAll, Begins};
+ghost use Rattle.hall.specs.Runs.{Placed, Roomy, Stands, FeedsAll, AllFed, Turned, Begins};
 use kernel_fresh::fresh;
 use layout::BYTES;
 use layout::LINKS;
@@ -61,7 +61,8 @@ fn feed_all(
 ) -> Stand
     requires { ⌜ FeedsAll (store (now bytes) (now links) (now words)) (now held) (now numbers) (now text) (now buffer) (now scratch)
         (now window) (now out) begun ⌝ }
-    ensures { λ r. ⌜ FedAll (store (now (bytes .exit)) (now (links .exit)) (now (words .exit))) (now (held .exit))
+    ensures { λ r. ⌜ AllFed (store (now (bytes .entry)) (now (links .entry)) (now (words .entry))) (now (held .entry)) (now (out .entry))
+        (store (now (bytes .exit)) (now (links .exit)) (now (words .exit))) (now (held .exit))
         (now (numbers .exit)) (now (text .exit)) (now (buffer .exit)) (now (scratch .exit)) (now (window .entry)) (now (out .exit)) begun r ⌝ }
 {
     let mut stand = begun;
@@ -146,8 +147,9 @@ fn turn(
 ) -> Stand
     requires { ⌜ FeedsAll (store (now bytes) (now links) (now words)) (now held) (now numbers) (now text) (now buffer) (now scratch)
         (now input) (now out) stand ⌝ }
-    ensures { λ r. ⌜ FedAll (store (now (bytes .exit)) (now (links .exit)) (now (words .exit))) (now (held .exit))
-        (now (numbers .exit)) (now (text .exit)) (now (buffer .exit)) (now (scratch .exit)) (now (input .entry)) (now (out .exit)) stand r ⌝ }
+    ensures { λ r. ⌜ Turned (store (now (bytes .entry)) (now (links .entry)) (now (words .entry))) (now (held .entry)) (now (out .entry))
+        (store (now (bytes .exit)) (now (links .exit)) (now (words .exit))) (now (held .exit))
+        (now (numbers .exit)) (now (text .exit)) (now (buffer .exit)) (now (scratch .exit)) (now (input .entry)) (now (input .exit)) (now (out .exit)) stand r ⌝ }
 {
     let got = libc::read(0, input);
     let n = io::count(got, input);

@@ -1,6 +1,7 @@
 -- `feed_all` has fed what came before place `from`; with room, a byte at least is taken.
 use Prim.Native.Nat.{_-_}
 use mathlib.Core.Path.{refl, sym, _∙_}
+use mathlib.Core.Bool.{true≢false}
 use native.Mathlib.Omega.{arith}
 use lib.ListN.{length}
 use Rattle.script_driver.specs.Parts.{store}
@@ -11,7 +12,7 @@ use Rattle.hall.proofs.feed_all.Tie as tie
 
 abbrev Inv-loop : tie.InvT-loop
 Inv-loop bytes₀ links₀ words₀ numbers₀ text₀ buffer₀ scratch₀ held₀ window out₀ stand₀ from₀ bytes links words numbers text buffer scratch held out stand from =
-    Going (store bytes links words) held numbers text buffer scratch window out stand₀ stand from
+    Going (store bytes₀ links₀ words₀) held₀ out₀ (store bytes links words) held numbers text buffer scratch window out stand₀ stand from
 
 abbrev μ-loop : tie.MeasureT-loop
 μ-loop bytes₀ links₀ words₀ numbers₀ text₀ buffer₀ scratch₀ held₀ window out₀ stand₀ from₀ bytes links words numbers text buffer scratch held out stand from = length window - from
@@ -91,7 +92,7 @@ same-length-9 : tie.Need-same-length-9 Inv-loop μ-loop
 same-length-9 c = c .before .before .loop .inv .output .size ∙ sym (c .before .before .before .before .before .before .before .before .before .before .before .before .before .pre .stands .output .size)
 
 returns : tie.Need-returns Inv-loop μ-loop
-returns c = going-done (c .before .before .loop .inv)
+returns c = going-done (c .before .before .loop .inv) (λ e. absurd (true≢false (sym e ∙ c .if1 .left)))
 
 same-length-10 : tie.Need-same-length-10 Inv-loop μ-loop
 same-length-10 c = c .before .loop .inv .stands .formed .sized .bytes ∙ sym (c .before .before .before .before .before .before .before .before .before .before .before .before .pre .stands .stands .formed .sized .bytes)
@@ -121,7 +122,7 @@ same-length-18 : tie.Need-same-length-18 Inv-loop μ-loop
 same-length-18 c = c .before .loop .inv .output .size ∙ sym (c .before .before .before .before .before .before .before .before .before .before .before .before .pre .stands .output .size)
 
 returns-2 : tie.Need-returns-2 Inv-loop μ-loop
-returns-2 c = going-done (c .before .loop .inv)
+returns-2 c = going-done (c .before .loop .inv) (λ e. omega (arith, c .loop-test .left))
 
 pub feed-all-spec : {M : Type 1} → statement M
 feed-all-spec =

@@ -1,9 +1,9 @@
 -- `turn` feeds what was read, or ends the run.
 use Prim.Native.Nat.{_≤_}
-use mathlib.Core.Path.{sym, _∙_}
+use mathlib.Core.Path.{refl, sym, _∙_}
 use native.Mathlib.Omega.{arith}
 use lib.ListN.{length}
-use Rattle.hall.proofs.Going.{fed-more}
+use Rattle.hall.proofs.Going.{turned, turned-end}
 use borrow.Author.Needs.{needs}
 use Rattle.hall.proofs.turn.Statement.{statement}
 use Rattle.hall.proofs.turn.Tie as tie
@@ -61,7 +61,7 @@ same-length-10 c = search needs
 returns : tie.Need-returns
 returns c =
     let n = c .before .before .before .before .before .before .before .before .before .before .before .before .before .before .before .before .before .before .before .before .before .before .before .before .before .before .before .before .before .before in
-    fed-more (c .before .before .before .before .before .before .before .before .before .before .before .before .before .before .before .before .before .before .feed-all .ensures) (omega (arith, n .count .ensures .0 .0, n .count .ensures .0 .1, n .before .before .before .before .read .kept .1 .0))
+    turned (n .count .result) (c .before .before .before .before .before .before .before .before .before .before .before .before .before .before .before .before .before .before .feed-all .ensures) refl (omega (arith, n .count .ensures .0 .0, n .count .ensures .0 .1, n .before .before .before .before .read .kept .1 .0))
 
 end-requires : tie.Need-end-requires
 end-requires c κs = c .before .before .before .before .before .before .before .before .before .before .before .before .before .before .before .before .before .before .before .before .before .before .before .before .before .before .pre .stands
@@ -100,7 +100,8 @@ returns-2 : tie.Need-returns-2
 returns-2 c =
     let e = c .before .before .before .before .before .before .before .before .before .before .before .before .before .before .before .before .before in
     let a = e .before .before .before .before .before .before .before .before .before .before .before .before .before .before .before .before .before .before .before .before .before .before .before .before .before .before .before .pre .stands in
-    record {
+    turned-end
+    (record {
       stands = record { formed = e .end .ensures; size = a .stands .size; few = a .stands .few };
       working = record {
         numbers = e .end .kept .1 .1 .1 .0 ∙ a .working .numbers;
@@ -112,7 +113,8 @@ returns-2 c =
       };
       output = record { size = e .end .kept .1 .1 .1 .1 .1 .1 .1 .1 .0 ∙ a .output .size; placed = omega arith };
       number = omega arith;
-    }
+    })
+    refl
 
 pub turn-spec : {M : Type 1} → statement M
 turn-spec =
