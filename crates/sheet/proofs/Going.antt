@@ -13,7 +13,7 @@ use Rattle.script_driver.specs.declared.Run.{Run}
 use Rattle.script_driver.specs.declared.Fed.{Fed}
 use Rattle.script_driver.specs.Parts.{runOf, fedOf}
 use Rattle.script_driver.proofs.Going.{feeds-within}
-use Rattle.sheet.specs.Runs.{BUFFER, Stands, LineAsks, RunDone, LastAsks, Begins}
+use Rattle.sheet.specs.Runs.{BUFFER, Stands, LineAsks, RunDone, Begins}
 
 -- ---- a line
 
@@ -77,19 +77,19 @@ turning-start r a n c = record {
   counted = omega (arith, n);
 }
 
+-- what is played of the input buffer is not more than it
+pub part-few : (n : ℕ) (input : List ℕ) → n ≤ length input → length input ≡ BUFFER → length (take n input) ≤ BUFFER
+part-few n input h e = omega (arith, length-take-le n input h, h, e)
+
 pub turning-asks : {s : Store} {held ns ts bs ss input : List ℕ} {r : Run} {turns : ℕ} (window : List ℕ)
     → Turning s held ns ts bs ss input r turns → 1 ≤ turns → length window ≤ BUFFER → LineAsks s held ns ts bs ss window r
 turning-asks window t some few = record { stands = t .stands; counted = omega (arith, t .counted) }
 
-pub turning-on : {s s′ : Store} {held ns ts bs ss input held′ ns′ ts′ bs′ ss′ input′ window : List ℕ} {r r′ : Run} {turns : ℕ}
-    → Turning s held ns ts bs ss input r turns → 1 ≤ turns → RunDone s′ held′ ns′ ts′ bs′ ss′ window r r′ → length window ≤ BUFFER
-    → length input′ ≡ length input → Turning s′ held′ ns′ ts′ bs′ ss′ input′ r′ (turns - 1)
-turning-on t some d few long = record {
+pub turning-on : {s s′ : Store} {held ns ts bs ss input held′ ns′ ts′ bs′ ss′ input′ window : List ℕ} {r r′ : Run} {turns turns′ : ℕ}
+    → Turning s held ns ts bs ss input r turns → turns′ + 1 ≤ turns → RunDone s′ held′ ns′ ts′ bs′ ss′ window r r′ → length window ≤ BUFFER
+    → length input′ ≡ length input → Turning s′ held′ ns′ ts′ bs′ ss′ input′ r′ turns′
+turning-on t fewer d few long = record {
   stands = d .stands;
   input-size = long ∙ t .input-size;
-  counted = omega (arith, t .counted, d .number);
+  counted = omega (arith, t .counted, d .number, fewer);
 }
-
-pub turning-last : {s : Store} {held ns ts bs ss input : List ℕ} {r : Run} {turns : ℕ} → Turning s held ns ts bs ss input r turns
-    → LastAsks s held ns ts bs ss r
-turning-last t = record { stands = t .stands; counted = omega (arith, t .counted) }

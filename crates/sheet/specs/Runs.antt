@@ -34,11 +34,6 @@ pub record RunDone (s : Store) (held ns ts bs ss window : List ℕ) (r r′ : Ru
 abbrev pub StandDone : Store → List ℕ → List ℕ → List ℕ → List ℕ → List ℕ → List ℕ → Run → Stand → Type 0
 StandDone s held ns ts bs ss window r x = RunDone s held ns ts bs ss window r (x .run)
 
--- one line more can be counted
-pub record LastAsks (s : Store) (held ns ts bs ss : List ℕ) (r : Run) : Type 0 where
-  pub stands : Stands s held ns ts bs ss r
-  pub counted : r .number + 1 ≤ LAST
-
 -- before the first turn
 pub record Begins (s : Store) (held ns ts bs ss input : List ℕ) : Type 0 where
   pub formed : Formed s

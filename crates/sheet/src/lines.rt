@@ -27,16 +27,65 @@ fn byte_of(held: &[u8], count: usize, window: &[u8], i: usize) -> u8 {
     0
 }
 
-// The call that a line says, if one digit does: as that digit.
-fn call_of(held: &[u8], count: usize, window: &[u8]) -> u8 {
-    if byte_of(held, count, window, 1) == 32 {
-        return byte_of(held, count, window, 0);
+// The call of a line after line one that may end capabilities, as its digit: 54 is delete_cap, 55 rename_obj; else 0.
+fn ending_call(held: &[u8], count: usize, window: &[u8], number: u64) -> u8 {
+    if number == 0 {
+        return 0;
+    }
+    if byte_of(held, count, window, 1) != 32 {
+        return 0;
+    }
+    let call = byte_of(held, count, window, 0);
+    if call == 54 || call == 55 {
+        return call;
     }
     0
 }
 
-// A line; its answer is not shown.
-fn silent_line(
+// Notes what lives before a line of that call.
+fn note_before(bytes: &[u8], links: &[u16], words: &[u32], before: &mut [u32], call: u8) {
+    if 0 < call {
+        note_all(bytes, links, words, before);
+    }
+}
+
+// What a line of that call ended.
+fn put_after(
+    links: &[u16],
+    words: &[u32],
+    before: &[u32],
+    out: &mut [u8],
+    at: usize,
+    number: u64,
+    call: u8,
+) -> usize {
+    if call == 54 {
+        return put_ending(
+            links,
+            words,
+            before,
+            out,
+            at,
+            number,
+            b": delete_cap ended\n",
+        );
+    }
+    if call == 55 {
+        return put_ending(
+            links,
+            words,
+            before,
+            out,
+            at,
+            number,
+            b": rename_obj ended\n",
+        );
+    }
+    at
+}
+
+// A line that ends with the window, or a part of one. Its answer is not shown; what it ended is.
+fn one_line(
     bytes: &mut [u8],
     links: &mut [u16],
     words: &mut [u32],
@@ -46,14 +95,19 @@ fn silent_line(
     scratch: &mut [u16],
     held: &mut [u8],
     window: &[u8],
-    run: Run,
-) -> Run
+    out: &mut [u8],
+    stand: Stand,
+) -> Stand
     requires { ⌜ LineAsks (store (now bytes) (now links) (now words)) (now held) (now numbers) (now text) (now buffer) (now scratch)
-        (now window) run ⌝ }
-    ensures { λ r. ⌜ RunDone (store (now (bytes .exit)) (now (links .exit)) (now (words .exit))) (now (held .exit))
-        (now (numbers .exit)) (now (text .exit)) (now (buffer .exit)) (now (scratch .exit)) (now (window .entry)) run r ⌝ }
+        (now window) (stand .run) ⌝ }
+    ensures { λ r. ⌜ StandDone (store (now (bytes .exit)) (now (links .exit)) (now (words .exit))) (now (held .exit))
+        (now (numbers .exit)) (now (text .exit)) (now (buffer .exit)) (now (scratch .exit)) (now (window .entry)) (stand .run) r ⌝ }
 {
+    let mut before = [0u32; NOTED];
     let mut answer = [0u8; ANSWER];
+    let run = stand.run;
+    let call = ending_call(held, run.count, window, run.number);
+    note_before(bytes, links, words, &mut before, call);
     let fed = feed(
         bytes,
         links,
@@ -68,201 +122,11 @@ fn silent_line(
         0,
         run,
     );
-    fed.run
-}
-
-// A line of a call that ends capabilities, and what it ended.
-fn ending_line(
-    bytes: &mut [u8],
-    links: &mut [u16],
-    words: &mut [u32],
-    numbers: &mut [u32],
-    text: &mut [u8],
-    buffer: &mut [u8],
-    scratch: &mut [u16],
-    held: &mut [u8],
-    window: &[u8],
-    out: &mut [u8],
-    stand: Stand,
-    call: &[u8],
-) -> Stand
-    requires { ⌜ LineAsks (store (now bytes) (now links) (now words)) (now held) (now numbers) (now text) (now buffer) (now scratch)
-        (now window) (stand .run) ⌝ }
-    ensures { λ r. ⌜ StandDone (store (now (bytes .exit)) (now (links .exit)) (now (words .exit))) (now (held .exit))
-        (now (numbers .exit)) (now (text .exit)) (now (buffer .exit)) (now (scratch .exit)) (now (window .entry)) (stand .run) r ⌝ }
-{
-    let mut before = [0u32; NOTED];
-    let run = stand.run;
-    note_all(bytes, links, words, &mut before);
-    let next = silent_line(
-        bytes,
-        links,
-        words,
-        numbers,
-        text,
-        buffer,
-        scratch,
-        held,
-        window,
-        run,
-    );
+    let next = fed.run;
     Stand {
         run: next,
-        at: put_ending(links, words, &before, out, stand.at, run.number, call),
+        at: put_after(links, words, &before, out, stand.at, run.number, call),
     }
-}
-
-// A line that ends no capability.
-fn other_line(
-    bytes: &mut [u8],
-    links: &mut [u16],
-    words: &mut [u32],
-    numbers: &mut [u32],
-    text: &mut [u8],
-    buffer: &mut [u8],
-    scratch: &mut [u16],
-    held: &mut [u8],
-    window: &[u8],
-    stand: Stand,
-) -> Stand
-    requires { ⌜ LineAsks (store (now bytes) (now links) (now words)) (now held) (now numbers) (now text) (now buffer) (now scratch)
-        (now window) (stand .run) ⌝ }
-    ensures { λ r. ⌜ StandDone (store (now (bytes .exit)) (now (links .exit)) (now (words .exit))) (now (held .exit))
-        (now (numbers .exit)) (now (text .exit)) (now (buffer .exit)) (now (scratch .exit)) (now (window .entry)) (stand .run) r ⌝ }
-{
-    let run = stand.run;
-    let next = silent_line(
-        bytes,
-        links,
-        words,
-        numbers,
-        text,
-        buffer,
-        scratch,
-        held,
-        window,
-        run,
-    );
-    Stand {
-        run: next,
-        at: stand.at,
-    }
-}
-
-// A line after line one, or a part of one.
-fn later_line(
-    bytes: &mut [u8],
-    links: &mut [u16],
-    words: &mut [u32],
-    numbers: &mut [u32],
-    text: &mut [u8],
-    buffer: &mut [u8],
-    scratch: &mut [u16],
-    held: &mut [u8],
-    window: &[u8],
-    out: &mut [u8],
-    stand: Stand,
-) -> Stand
-    requires { ⌜ LineAsks (store (now bytes) (now links) (now words)) (now held) (now numbers) (now text) (now buffer) (now scratch)
-        (now window) (stand .run) ⌝ }
-    ensures { λ r. ⌜ StandDone (store (now (bytes .exit)) (now (links .exit)) (now (words .exit))) (now (held .exit))
-        (now (numbers .exit)) (now (text .exit)) (now (buffer .exit)) (now (scratch .exit)) (now (window .entry)) (stand .run) r ⌝ }
-{
-    let run = stand.run;
-    let call = call_of(held, run.count, window);
-    if call == 54 {
-        return ending_line(
-            bytes,
-            links,
-            words,
-            numbers,
-            text,
-            buffer,
-            scratch,
-            held,
-            window,
-            out,
-            stand,
-            b": delete_cap ended\n",
-        );
-    }
-    if call == 55 {
-        return ending_line(
-            bytes,
-            links,
-            words,
-            numbers,
-            text,
-            buffer,
-            scratch,
-            held,
-            window,
-            out,
-            stand,
-            b": rename_obj ended\n",
-        );
-    }
-    other_line(
-        bytes,
-        links,
-        words,
-        numbers,
-        text,
-        buffer,
-        scratch,
-        held,
-        window,
-        stand,
-    )
-}
-
-// A line that ends with the window, or a part of one.
-pub fn one_line(
-    bytes: &mut [u8],
-    links: &mut [u16],
-    words: &mut [u32],
-    numbers: &mut [u32],
-    text: &mut [u8],
-    buffer: &mut [u8],
-    scratch: &mut [u16],
-    held: &mut [u8],
-    window: &[u8],
-    out: &mut [u8],
-    stand: Stand,
-) -> Stand
-    requires { ⌜ LineAsks (store (now bytes) (now links) (now words)) (now held) (now numbers) (now text) (now buffer) (now scratch)
-        (now window) (stand .run) ⌝ }
-    ensures { λ r. ⌜ StandDone (store (now (bytes .exit)) (now (links .exit)) (now (words .exit))) (now (held .exit))
-        (now (numbers .exit)) (now (text .exit)) (now (buffer .exit)) (now (scratch .exit)) (now (window .entry)) (stand .run) r ⌝ }
-{
-    let run = stand.run;
-    if run.number == 0 {
-        return other_line(
-            bytes,
-            links,
-            words,
-            numbers,
-            text,
-            buffer,
-            scratch,
-            held,
-            window,
-            stand,
-        );
-    }
-    later_line(
-        bytes,
-        links,
-        words,
-        numbers,
-        text,
-        buffer,
-        scratch,
-        held,
-        window,
-        out,
-        stand,
-    )
 }
 
 // The place after a line end, or the window's end where there is none.

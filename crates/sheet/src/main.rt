@@ -1,7 +1,9 @@
 // The acceptance sheet: a script on standard input is run on the store, and what became of the capabilities is drawn as
 // text for a person: what each done delete or rename ended, then each object with its tree.
+ghost use Prim.Native.Nat.{_+_, _≤_};
+ghost use lib.ListN.{length};
 ghost use Rattle.script_driver.specs.Parts.{store};
-ghost use Rattle.sheet.specs.Runs.{Begins, LastAsks};
+ghost use Rattle.sheet.specs.Runs.{Begins};
 
 mod lines;
 mod state;
@@ -10,7 +12,6 @@ use kernel_fresh::fresh;
 use layout::BYTES;
 use layout::LINKS;
 use layout::WORDS;
-use lines::one_line;
 use lines::play_window;
 use script_driver::Run;
 use script_driver::line::HELD;
@@ -25,39 +26,28 @@ use values::limit::MIN_SCRATCH;
 // So many turns, of 65,536 bytes at most, that no run uses them up, and that their lines can be counted in 64 bits.
 const TURNS: u64 = 140737488355328;
 
-// "The last line may lack its end": it is given one.
-fn last_line(
-    bytes: &mut [u8],
-    links: &mut [u16],
-    words: &mut [u32],
-    numbers: &mut [u32],
-    text: &mut [u8],
-    buffer: &mut [u8],
-    scratch: &mut [u16],
-    held: &mut [u8],
-    out: &mut [u8],
-    stand: Stand,
-) -> Stand
-    requires { ⌜ LastAsks (store (now bytes) (now links) (now words)) (now held) (now numbers) (now text) (now buffer) (now scratch)
-        (stand .run) ⌝ }
+// "The last line may lack its end": where nothing came, and a part of a line is held, it is given one. Answers how many
+// bytes there are to play.
+fn give_end(input: &mut [u8], came: usize, count: usize) -> usize
+    requires { ⌜ came ≤ length (now input) ⌝ }
+    ensures { λ r. ⌜ r ≤ length (now (input .exit)) ⌝ }
 {
-    let run = stand.run;
-    if run.count == 0 {
-        return stand;
+    if came == 0 && 0 < count && 0 < input.len() {
+        input[0] = 10;
+        return 1;
     }
-    one_line(
-        bytes,
-        links,
-        words,
-        numbers,
-        text,
-        buffer,
-        scratch,
-        held,
-        b"\n",
-        out,
-        stand,
-    )
+    came
+}
+
+// How many turns are left: none, where nothing came.
+fn turns_left(turns: u64, came: usize) -> u64
+    requires { ⌜ 1 ≤ turns ⌝ }
+    ensures { λ r. ⌜ r + 1 ≤ turns ⌝ }
+{
+    if came == 0 {
+        return 0;
+    }
+    turns - 1
 }
 
 // Reads and plays, turn after turn, until nothing comes; nothing says that the input ends, so the turns are counted down.
@@ -82,11 +72,12 @@ fn play_all(
         count: 0,
     };
     let mut stand = Stand { run: begun, at: 0 };
-    let mut going = true;
     let mut turns = TURNS;
-    while turns > 0 && going {
+    while turns > 0 {
         let got = libc::read(0, input);
-        let n = io::count(got, input);
+        let came = io::count(got, input);
+        let run = stand.run;
+        let n = give_end(input, came, run.count);
         stand = play_window(
             bytes,
             links,
@@ -100,21 +91,9 @@ fn play_all(
             out,
             stand,
         );
-        going = 0 < n;
-        turns -= 1;
+        turns = turns_left(turns, came);
     }
-    last_line(
-        bytes,
-        links,
-        words,
-        numbers,
-        text,
-        buffer,
-        scratch,
-        held,
-        out,
-        stand,
-    )
+    stand
 }
 
 // "Line one .. if bad or absent, `0 2` is all it writes"; else the objects.
