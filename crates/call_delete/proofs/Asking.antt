@@ -5,22 +5,28 @@ use mathlib.Core.Logic.{_≢_}
 use mathlib.Core.List.{List}
 use native.Mathlib.Omega.{arith}
 use lib.Dec.{eqb}
-use lib.ListN.{getD}
+use lib.ListN.{length, getD, replicate}
 use borrow.Author.Tests.{eq-eqb, ne-eqb}
+use Rattle.rules.specs.Call.{code, done}
 use Rattle.rules.proofs.Tests.{pick-yes, pick-not}
 use Rattle.layout.specs.Layout as Layout
 use Rattle.layout.specs.Rows.{ownerOf, parentOf}
+use Rattle.layout.specs.View.{view}
 use Rattle.layout.proofs.Field.{field-in}
 use Rattle.layout.proofs.Kept.{cells-kept}
 use Rattle.layout.proofs.Shaped.{CapShaped, shaped}
+use Rattle.call_steps.specs.declared.request.Reply.{Reply}
 use Rattle.call_steps.specs.Run.{over}
+use Rattle.call_steps.specs.Replies.{Gives}
+use Rattle.call_steps.proofs.Replying.{gives-code, done-is}
 use Rattle.call_prune.specs.Links.{prunedLinks, deletedLinks, Living, Child}
 use Rattle.call_prune.proofs.Pruning.{Pruning}
 use Rattle.call_prune.proofs.Measuring.{pruned}
+use Rattle.call_prune.proofs.Clearing.{scratch-done}
 use Rattle.call_ending.specs.Ended.{EndAsks, EndsObject, Last}
 use Rattle.call_ending.proofs.Money.{forfeit-fits}
 use Rattle.call_ending.proofs.Requires.{end-asks}
-use Rattle.call_delete.specs.Runs.{masterLinks, masterWords, deleteRun, DeleteAsks, MasterAsks, MasterEnds}
+use Rattle.call_delete.specs.Runs.{masterLinks, masterWords, deleteRun, DeleteAsks, MasterAsks, MasterEnds, Deletes}
 
 module _ {b l w : List ℕ} {k : ℕ} (a : DeleteAsks b l w k) where
   pub living : Living l k
@@ -43,6 +49,15 @@ module _ {b l w : List ℕ} {k : ℕ} (a : DeleteAsks b l w k) where
   unfolding deleteRun
   of-master {l′} {w′} z M = ap (λ x. over 0 b x w′) (M .links) ∙ ap (over 0 b (masterLinks l k)) (M .words)
       ∙ sym (pick-yes (eqb (parentOf l k) 0) _ _ (eq-eqb _ 0 (parent-cell ∙ z)))
+
+  -- the reply, and the scratch all zero
+  pub deletes : {scratch scratch′ l′ w′ : List ℕ} {r : Reply} → Gives done r → over 0 b l′ w′ ≡ deleteRun b l w k
+      → scratch′ ≡ replicate (length scratch) 0 → Deletes b l w scratch k r l′ w′ scratch′
+  unfolding done code
+  deletes {scratch} {r = r} G e z = record {
+    replies = done-is G e;
+    scratch-left = z ∙ scratch-done (r .code) scratch (gives-code G (view b l w));
+  }
 
   -- ---- a master, once its descendants have ended
 

@@ -5,7 +5,6 @@ use mathlib.Core.Path.{_≡_}
 use mathlib.Core.Bool.{true, false}
 use mathlib.Core.List.{List}
 use lib.Dec.{eqb}
-use lib.ListN.{length, replicate}
 use Rattle.rules.specs.Code as Code
 use Rattle.rules.specs.Limit as Limit
 use Rattle.rules.specs.Store.{moneyIn}
@@ -13,8 +12,11 @@ use Rattle.layout.specs.Rows.{ownerOf, parentOf}
 use Rattle.layout.specs.View.{view}
 use Rattle.layout.specs.Shape.{Shape}
 use Rattle.layout.specs.WellFormed.{Sized, Cells}
+use Rattle.call_steps.specs.declared.request.Reply.{Reply}
 use Rattle.call_steps.specs.Run.{Held, Ran, over}
+use Rattle.call_steps.specs.Replies.{Replies}
 use Rattle.call_prune.specs.Links.{prunedLinks, deletedLinks}
+use Rattle.call_prune.specs.Scratch.{scratchLeft}
 use Rattle.call_ending.specs.Forfeit.{endedWords}
 use Rattle.call_ending.specs.Links.{endedLinks}
 
@@ -50,7 +52,7 @@ pub record MasterEnds (b l w : List ℕ) (k : ℕ) (l′ w′ : List ℕ) : Type
   pub links : l′ ≡ masterLinks l k
   pub words : w′ ≡ masterWords b l w k
 
--- the run; "A done delete or rename leaves the scratch all zero"
-pub record Deletes (b l w scratch : List ℕ) (k r : ℕ) (l′ w′ scratch′ : List ℕ) : Type 0 where
-  pub run : over r b l′ w′ ≡ deleteRun b l w k
-  pub zeros : scratch′ ≡ replicate (length scratch) 0
+-- the reply r and the slices that are left are the run; the scratch is as its code says
+pub record Deletes (b l w scratch : List ℕ) (k : ℕ) (r : Reply) (l′ w′ scratch′ : List ℕ) : Type 0 where
+  pub replies : Replies r b l′ w′ (deleteRun b l w k)
+  pub scratch-left : scratch′ ≡ scratchLeft (r .code) scratch

@@ -5,10 +5,10 @@ use call_ending::end::end_object;
 use call_prune::below::prune_below;
 use call_prune::delete::delete_child;
 use call_prune::scratch::clear;
+use call_steps::request::Reply;
 use layout::OWNER;
 use layout::PARENT;
 use layout::slot;
-use values::code::DONE;
 
 // Of a master, in slot k: all below it end, then its object and it.
 fn delete_master(bytes: &[u8], links: &mut [u16], words: &mut [u32], k: usize)
@@ -28,7 +28,7 @@ pub fn delete_cap(
     words: &mut [u32],
     scratch: &mut [u16],
     k: usize,
-) -> u32
+) -> Reply
     requires { ⌜ DeleteAsks (now bytes) (now links) (now words) k ⌝ }
     ensures { λ r. ⌜ Deletes (now (bytes .entry)) (now (links .entry)) (now (words .entry)) (now (scratch .entry)) k r
         (now (links .exit)) (now (words .exit)) (now (scratch .exit)) ⌝ }
@@ -36,8 +36,8 @@ pub fn delete_cap(
     clear(scratch);
     if links[PARENT + k] == 0 {
         delete_master(bytes, links, words, k);
-        return DONE;
+        return Reply::done();
     }
     delete_child(links, k);
-    DONE
+    Reply::done()
 }

@@ -9,7 +9,7 @@ use borrow.Author.Tests.{eq-eqb}
 use Rattle.rules.specs.Slots.{some}
 use Rattle.rules.specs.Store.{Cap, State}
 use Rattle.rules.specs.Rights.{deriveCap, op, asked}
-use Rattle.rules.specs.Call.{Call, Choice}
+use Rattle.rules.specs.Call.{Call, Choice, handsBack}
 use Rattle.rules.specs.Refusals.{_when_, first}
 use Rattle.rules.specs.Changes.{newCap}
 use Rattle.rules.specs.Calls.{child, deriveCapRefuses, deriveCapDoes, refuses, does}
@@ -26,10 +26,9 @@ use Rattle.layout.proofs.Kept.{cells-kept}
 use Rattle.layout.proofs.Shaped.{shaped}
 use Rattle.layout.proofs.FreeCaps.{FirstFree, first-free, caps-full, first-open}
 use Rattle.call_steps.specs.Run.{Held, Meets, outcome}
-use Rattle.call_steps.specs.Replies.{handed}
 use Rattle.call_steps.specs.Tests.{taken}
 use Rattle.call_steps.proofs.Meeting.{Takes, meets-taken}
-use Rattle.call_steps.proofs.Replying.{handed-is}
+use Rattle.call_steps.proofs.Replying.{hands-back-is}
 use Rattle.call_steps.proofs.Sharing.{p1-taken-is}
 use Rattle.call_grow.specs.Made.{freeCap, newWords}
 use Rattle.call_grow.proofs.Making.{made-words}
@@ -116,12 +115,12 @@ module _ {b l w : List ℕ} (f : WellFormed b l w) (c : Call) (me k : ℕ) (h : 
     rules-is : does s c me k taking deriveCap ≡ outcome (derived b l w k x)
     unfolding does deriveCapDoes derived childIn
     rules-is =
-        handed-is (s .object (s .cap k .object) .name) (c .drawn) (newCap s i (child s c me k) (s .money k))
+        hands-back-is (s .object (s .cap k .object) .name) (c .drawn) (newCap s i (child s c me k) (s .money k)) s
         ∙ (λ t. record {
-          answer = handed (s .object (cap-object b l w k t) .name) (c .drawn);
+          answer = handsBack (s .object (cap-object b l w k t) .name) (c .drawn) s .answer;
           after = newCap s i (child-is t) (money-here b l w k (h .live) t);
         })
-        ∙ ap (λ r. record { answer = handed (s .object (ownerOf l k) .name) (c .drawn); after = r }) (sym shows)
+        ∙ ap (λ r. record { answer = handsBack (s .object (ownerOf l k) .name) (c .drawn) s .answer; after = r }) (sym shows)
 
     takes : op (c .number) ≡ deriveCap → Takes s c me k deriveCap taking (derived b l w k x)
     unfolding derived FreeCap

@@ -11,6 +11,7 @@ use borrow.Author.Tests.{eq-eqb, ne-eqb}
 use Rattle.rules.specs.Slots.{some}
 use Rattle.rules.specs.Store.{Name, Password, Window, Cap}
 use Rattle.rules.specs.Rights.{both}
+use Rattle.rules.specs.Call.{handsBack}
 use Rattle.rules.specs.Refusals.{_when_, first}
 use Rattle.rules.specs.Calls.{moved}
 use Rattle.layout.specs.Layout as Layout
@@ -19,7 +20,7 @@ use Rattle.layout.specs.View.{view}
 use Rattle.layout.proofs.Field.{field-in}
 use Rattle.call_steps.specs.declared.request.Reply.{Reply}
 use Rattle.call_steps.specs.Refuses.{Refuses}
-use Rattle.call_steps.specs.Replies.{handed, HandsBack, Replies}
+use Rattle.call_steps.specs.Replies.{Gives, Replies}
 use Rattle.call_steps.specs.Tests.{CapSlot, taken}
 use Rattle.call_steps.proofs.Replying.{replies-stopped, replies-done}
 use Rattle.call_grow.specs.declared.cap.NewCap.{NewCap}
@@ -94,19 +95,19 @@ module _ {b l w : List ℕ} {k o : ℕ} {t : Bool} (rights : ℕ) (range : Windo
   stopped-13 e z R = replies-stopped _ 13 (stop-is T e (eq-eqb (freeCap l) 0 z)) (omega arith) R
 
   -- the record made is the child
-  child-made : (n : Name) → n ≡ view b l w .object o .name → HandsBack n drawn r
+  child-made : (n : Name) → n ≡ view b l w .object o .name → Gives (handsBack n drawn) r
       → (x : NewCap) → IsChild l w k rights range drawn x → {l′ w′ : List ℕ} → Adds l w k (capOf x) (x .next) l′ w′
       → Replies r b l′ w′ (derived b l w k (childIn l w k rights range drawn))
   unfolding derived childIn
   child-made n q H x C A = record {
     none = H .none;
-    answer = H .answer ∙ ap (λ m. handed m drawn) (q ∙ ap (λ i. view b l w .object i .name) (object-is T));
+    answer = H .answer (view b l w) ∙ ap (λ m. handsBack m drawn (view b l w) .answer) (q ∙ ap (λ i. view b l w .object i .name) (object-is T));
     bytes = refl;
     links = A .links ∙ (λ i. derivedLinks l (freeCap l) k (C .cap i) (C .next i));
     words = A .words ∙ (λ i. newWords w (freeCap l) (C .cap i) (moneyOf w k));
   }
 
-  pub goes-on : t ≡ false → freeCap l ≢ 0 → (n : Name) → n ≡ view b l w .object o .name → HandsBack n drawn r
+  pub goes-on : t ≡ false → freeCap l ≢ 0 → (n : Name) → n ≡ view b l w .object o .name → Gives (handsBack n drawn) r
       → (x : NewCap) → IsChild l w k rights range drawn x → {l′ w′ : List ℕ} → Adds l w k (capOf x) (x .next) l′ w′
       → Replies r b l′ w′ (deriveRun b l w k rights range drawn)
   unfolding deriveRun first _when_

@@ -11,6 +11,7 @@ use Rattle.rules.specs.Code as Code
 use Rattle.rules.specs.Slots.{some}
 use Rattle.rules.specs.Store.{Password, Window, Cap}
 use Rattle.rules.specs.Rights.{both}
+use Rattle.rules.specs.Call.{handsBack}
 use Rattle.rules.specs.Refusals.{_when_, first}
 use Rattle.rules.specs.Calls.{moved}
 use Rattle.layout.specs.Layout as Layout
@@ -18,7 +19,6 @@ use Rattle.layout.specs.Rows.{masterOf, ownerOf, firstChildOf, rightsOf, moneyO
 use Rattle.layout.specs.View.{view}
 use Rattle.layout.specs.WellFormed.{Sized}
 use Rattle.call_steps.specs.Run.{Ran, settled}
-use Rattle.call_steps.specs.Replies.{handed}
 use Rattle.call_steps.specs.Tests.{ObjectSlot, CapSlot, taken}
 use Rattle.call_grow.specs.declared.cap.NewCap.{NewCap}
 use Rattle.call_grow.specs.Made.{capOf, freeCap, newLinks, newWords}
@@ -78,7 +78,7 @@ deriveStop b l w k p1 = first
 -- the child made, and handed back as drawn
 unfoldable pub derived : List ℕ → List ℕ → List ℕ → ℕ → Cap → Ran
 derived b l w k x = record {
-  answer = handed (view b l w .object (ownerOf l k) .name) (x .password);
+  answer = handsBack (view b l w .object (ownerOf l k) .name) (x .password) (view b l w) .answer;
   bytes = b;
   links = derivedLinks l (freeCap l) k x (firstChildOf l k);
   words = newWords w (freeCap l) x (moneyOf w k);

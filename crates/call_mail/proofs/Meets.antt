@@ -24,11 +24,11 @@ use Rattle.layout.specs.View.{isProcess, messages, view}
 use Rattle.layout.specs.WellFormed.{Plain}
 use Rattle.layout.proofs.Shown.{process-yes, process-is, process-lives, process-flag, cap-object, cash-here, box-here}
 use Rattle.layout.proofs.Lengths.{messages-length}
-use Rattle.call_steps.specs.Run.{Process, Held, MeetsPlain, over}
+use Rattle.call_steps.specs.Run.{Process, Held, MeetsPlain, over, handedOver}
 use Rattle.call_steps.proofs.Meeting.{none, takes, DoesPlain, plain-settled}
 use Rattle.call_steps.proofs.Holding.{target-of}
 use Rattle.call_mail.specs.Runs.{messageSlot, SendAsks, sendStop, sentBytes, sentWords, sendRun}
-use Rattle.call_mail.specs.Runs.{oldest, oldestBytes, receivedBytes, receivedWords, ReceiveAsks, answered, receiveStop}
+use Rattle.call_mail.specs.Runs.{oldest, oldestBytes, receivedBytes, receivedWords, ReceiveAsks, receiveStop}
 use Rattle.call_mail.specs.Runs.{receiveRun}
 use Rattle.call_mail.proofs.Boxed.{boxed-view, boxed-cells}
 use Rattle.call_mail.proofs.Sent.{sent-boxed, sent-cash, sent-marks, sent-box, sent-awake, sent-sized}
@@ -198,8 +198,8 @@ module _ {b l w : List ℕ} (f : Plain b l w) where
           ∙ ap (λ i. messages i (lengthOf b) (sumOf w) (textIn b) (oldest me)) some)
 
       receive-does : DoesPlain l s c me k receive
-          (answered 0 (sumOf w (oldest me)) (oldestBytes b me) (receivedBytes b me) l (receivedWords w me))
-      unfolding answered handsOver does
+          (handedOver (sumOf w (oldest me)) (oldestBytes b me) (receivedBytes b me) l (receivedWords w me))
+      unfolding handedOver handsOver does
       receive-does =
           let Z = f .sized in
           let C = f .cells in

@@ -1,21 +1,23 @@
 -- The run of receive by what the code found in the cells; and the buffer, of which the front is the oldest message.
 use Prim.Native.Nat.{ℕ, _+_, _-_, _*_, _≤_, _<_}
-use mathlib.Core.Path.{_≡_, refl, sym, ap, _∙_}
+use mathlib.Core.Path.{_≡_, refl, sym, ap, _∙_, subst}
 use mathlib.Core.Logic.{_≢_}
 use mathlib.Core.List.{List, _++_}
 use native.Mathlib.Omega.{arith}
 use lib.ListN.{length, getD, set, take, drop, length-drop, take-append-drop}
 use lib.Seq.{length-take-le, getD-take, getD-drop, ext-getD}
 use borrow.Author.Tests.{eq-eqb, ne-eqb}
-use Rattle.rules.specs.Call.{code}
 use Rattle.rules.specs.Refusals.{_when_, first}
 use Rattle.layout.specs.Layout as Layout
 use Rattle.layout.specs.Rows.{countOf, lengthOf, textIn, cashOf, sumOf}
 use Rattle.layout.proofs.Field.{field-in}
-use Rattle.call_steps.specs.Run.{over, overlay}
+use Rattle.call_steps.specs.declared.request.Reply.{Reply}
+use Rattle.call_steps.specs.Run.{over, handedOver, overlay}
+use Rattle.call_steps.specs.Replies.{HandsOver, Fills}
 use Rattle.call_steps.proofs.Meeting.{stopped, goes-on}
+use Rattle.call_steps.proofs.Replying.{fills-done}
 use Rattle.call_mail.specs.Copies.{Copied}
-use Rattle.call_mail.specs.Runs.{textFrom, oldest, Moved, answered, receiveStop, receiveRun, Receives, ReceiveAsks}
+use Rattle.call_mail.specs.Runs.{textFrom, oldest, Moved, receiveStop, receiveRun, ReceiveAsks}
 use Rattle.call_mail.proofs.Copying.{copied-length, copied-in, copied-out}
 use Rattle.call_mail.proofs.Boxes.{text-is}
 
@@ -69,31 +71,27 @@ module _ {b w buffer : List ℕ} {me : ℕ} (A : ReceiveAsks b w buffer me) wher
     pub oldest-fits : getD w (Layout.CASH + me) 0 + getD w (Layout.SUM + oldest me) 0 ≤ 4294967295
     oldest-fits = rw (cash-in, sum-in) at (A .fits (λ e. some (sym count-in ∙ e)))
 
-  pub receive-met : getD b (Layout.COUNT + me) 0 ≡ 0 → Receives b w buffer me 15 0 0 b w buffer
-  unfolding answered receiveRun receiveStop first _when_ over code overlay
-  receive-met e = record {
-    run = λ l. stopped b l w _ 15 (rw (eq-eqb (countOf b me) 0 (count-in ∙ e)) refl) (omega arith);
-    size = refl;
-    rest = refl;
-  }
+  pub receive-met : getD b (Layout.COUNT + me) 0 ≡ 0 → (l : List ℕ) → over 15 b l w ≡ receiveRun b l w me
+  unfolding receiveRun receiveStop first _when_
+  receive-met e l = stopped b l w _ 15 (rw (eq-eqb (countOf b me) 0 (count-in ∙ e)) refl) (omega arith)
 
   pub receive-done : {buffer′ b′ w′ : List ℕ} → getD b (Layout.COUNT + me) 0 ≢ 0
       → Copied (getD b (Layout.LENGTH + oldest me) 0) b (textFrom (oldest me)) buffer 0 buffer′
       → Moved b (set w (Layout.CASH + me) (getD w (Layout.CASH + me) 0 + getD w (Layout.SUM + oldest me) 0)) (oldest me)
       b′ w′
-      → Receives b w buffer me 0 (getD w (Layout.SUM + oldest me) 0) (getD b (Layout.LENGTH + oldest me) 0)
-      (set b′ (Layout.COUNT + me) (getD b (Layout.COUNT + me) 0 - 1)) w′ buffer′
+      → {r : Reply} → HandsOver (getD w (Layout.SUM + oldest me) 0) (getD b (Layout.LENGTH + oldest me) 0) r
+      → (l : List ℕ) → Fills r (set b′ (Layout.COUNT + me) (getD b (Layout.COUNT + me) 0 - 1)) l w′ buffer buffer′
+      (receiveRun b l w me)
   unfolding receiveRun receiveStop first _when_
-  receive-done {buffer′} {b′} {w′} some c M =
+  receive-done {buffer′} {b′} {w′} some c M {r} H l =
+      let n : ℕ = getD b (Layout.LENGTH + oldest me) 0 in
+      let sum : ℕ = getD w (Layout.SUM + oldest me) 0 in
       let high : oldest me ≤ 259 = omega (arith, A .caller .high) in
       let short = oldest-short some in
-      record {
-        run = λ l.
-            ap (λ t. answered 0 (getD w (Layout.SUM + oldest me) 0) t
-            (set b′ (Layout.COUNT + me) (getD b (Layout.COUNT + me) 0 - 1)) l w′)
-            (front-is c (A .bytes) (A .room) high short)
-            ∙ rw (M .bytes, M .words, ← length-in, ← sum-in, ← cash-in, ← count-in)
-            (goes-on b l w _ (rw (ne-eqb (countOf b me) 0 (λ e. some (sym count-in ∙ e))) refl));
-        size = front-length c (A .bytes) (A .room) high short;
-        rest = overlaid c (A .bytes) (A .room) high short;
-      }
+      fills-done buffer (take n buffer′) buffer′
+      (subst (λ i. HandsOver sum i r) (sym (front-length c (A .bytes) (A .room) high short)) H)
+      (overlaid c (A .bytes) (A .room) high short)
+      (ap (λ t. handedOver sum t (set b′ (Layout.COUNT + me) (getD b (Layout.COUNT + me) 0 - 1)) l w′)
+      (front-is c (A .bytes) (A .room) high short)
+      ∙ rw (M .bytes, M .words, ← length-in, ← sum-in, ← cash-in, ← count-in)
+      (goes-on b l w _ (rw (ne-eqb (countOf b me) 0 (λ e. some (sym count-in ∙ e))) refl)))

@@ -9,14 +9,13 @@ use lib.Dec.{eqb, leb, ltb}
 use lib.ListN.{length, set, take, drop}
 use Rattle.rules.specs.Code as Code
 use Rattle.rules.specs.Limit as Limit
-use Rattle.rules.specs.Call.{noCapability}
 use Rattle.rules.specs.Refusals.{_when_, first}
 use Rattle.layout.specs.Layout as Layout
 use Rattle.layout.specs.Rows.{flagOf, countOf, lengthOf, textIn, masterOf, ownerOf, cashOf, sumOf}
 use Rattle.layout.specs.View.{isProcess}
 use Rattle.layout.specs.WellFormed.{Sized}
 use Rattle.call_steps.specs.Tests.{ObjectSlot}
-use Rattle.call_steps.specs.Run.{Target, Ran, over, settled, overlay}
+use Rattle.call_steps.specs.Run.{Target, Ran, over, handedOver, settled}
 use Rattle.call_mail.specs.Copies.{copied}
 
 -- ---- slots
@@ -103,31 +102,9 @@ receivedBytes b me = set (movedBytes b (oldest me)) (Layout.COUNT + me) (countOf
 abbrev pub receivedWords : List ℕ → ℕ → List ℕ
 receivedWords w me = movedWords (set w (Layout.CASH + me) (cashOf w me + sumOf w (oldest me))) (oldest me)
 
--- the code, and a message's sum and bytes to tell
-unfoldable pub answered : ℕ → ℕ → List ℕ → List ℕ → List ℕ → List ℕ → Ran
-answered code sum bytes b l w = record {
-  answer = record {
-    code = code;
-    capability = noCapability;
-    length = 0;
-    moneyword = 0;
-    sum = sum;
-    bytes = bytes;
-  };
-  bytes = b;
-  links = l;
-  words = w;
-}
-
 unfoldable pub receiveRun : List ℕ → List ℕ → List ℕ → ℕ → Ran
 receiveRun b l w me = settled (receiveStop b me) b l w
-    (answered Code.done (sumOf w (oldest me)) (oldestBytes b me) (receivedBytes b me) l (receivedWords w me))
-
--- the run, by what the code gives back: the slices, and `count` bytes at the buffer's front
-pub record Receives (b w buffer : List ℕ) (me code sum count : ℕ) (b′ w′ buffer′ : List ℕ) : Type 0 where
-  pub run : (l : List ℕ) → answered code sum (take count buffer′) b′ l w′ ≡ receiveRun b l w me
-  pub size : length (take count buffer′) ≡ count
-  pub rest : buffer′ ≡ overlay (take count buffer′) buffer
+    (handedOver (sumOf w (oldest me)) (oldestBytes b me) (receivedBytes b me) l (receivedWords w me))
 
 -- ---- what the code asks
 

@@ -1,9 +1,13 @@
 // "receive: 15 the box is empty. Takes the oldest; its sum joins the cash." "A done read or receive writes its bytes at
 // the buffer's front and changes no later byte."
-ghost use Rattle.call_mail.specs.Runs.{MoveAsks, Moved, ReceiveAsks, Receives};
+ghost use Prim.Native.Nat.{ℕ};
+ghost use mathlib.Core.List.{List};
+ghost use Rattle.call_steps.specs.Replies.{Fills};
+ghost use Rattle.call_mail.specs.Runs.{MoveAsks, Moved, ReceiveAsks, receiveRun};
 use crate::copy::copy;
 use crate::copy::shift;
 use crate::copy::shift_words;
+use call_steps::request::Reply;
 use layout::CASH;
 use layout::COUNT;
 use layout::LENGTH;
@@ -11,7 +15,6 @@ use layout::SUM;
 use layout::TEXT;
 use values::cash::Cash;
 use values::code::BOX_EMPTY;
-use values::code::DONE;
 use values::limit::BOX_SLOTS;
 use values::limit::MAX_MESSAGE;
 
@@ -19,12 +22,6 @@ use values::limit::MAX_MESSAGE;
 const FOLLOWING: usize = BOX_SLOTS - 1;
 
 const FOLLOWING_TEXTS: usize = FOLLOWING * MAX_MESSAGE;
-
-pub struct Received {
-    pub code: u32,
-    pub sum: u32,
-    pub count: usize,
-}
 
 // The three messages after slot i move down one place: texts, lengths and sums.
 fn move_down(bytes: &mut [u8], words: &mut [u32], i: usize)
@@ -37,18 +34,14 @@ fn move_down(bytes: &mut [u8], words: &mut [u32], i: usize)
 }
 
 // The oldest message of the caller, in slot me: its bytes to the buffer's front, its sum to the caller's cash.
-pub fn receive(bytes: &mut [u8], words: &mut [u32], buffer: &mut [u8], me: usize) -> Received
+pub fn receive(bytes: &mut [u8], words: &mut [u32], buffer: &mut [u8], me: usize) -> Reply
     requires { ⌜ ReceiveAsks (now bytes) (now words) (now buffer) me ⌝ }
-    ensures { λ r. ⌜ Receives (now (bytes .entry)) (now (words .entry)) (now (buffer .entry)) me
-        (r .code) (r .sum) (r .count) (now (bytes .exit)) (now (words .exit)) (now (buffer .exit)) ⌝ }
+    ensures { λ r. ⌜ ((l : List ℕ) → Fills r (now (bytes .exit)) l (now (words .exit)) (now (buffer .entry)) (now (buffer .exit))
+        (receiveRun (now (bytes .entry)) l (now (words .entry)) me)) ⌝ }
 {
     let count = bytes[COUNT + me];
     if count == 0 {
-        return Received {
-            code: BOX_EMPTY,
-            sum: 0,
-            count: 0,
-        };
+        return Reply::refused(BOX_EMPTY);
     }
     let i = me * BOX_SLOTS;
     let length = bytes[LENGTH + i] as usize;
@@ -58,9 +51,5 @@ pub fn receive(bytes: &mut [u8], words: &mut [u32], buffer: &mut [u8], me: usize
     words[CASH + me] = cash.0 + sum;
     move_down(bytes, words, i);
     bytes[COUNT + me] = count - 1;
-    Received {
-        code: DONE,
-        sum: sum,
-        count: length,
-    }
+    Reply::hands_over(sum, length as u32)
 }

@@ -1,10 +1,10 @@
 // "send: 8; 9 the caller's cash is below the sum; 14 four messages in the box. The sum travels in the message; the
 // target's waiting mark clears."
-ghost use mathlib.Core.Path.{_≡_};
-ghost use Rattle.call_steps.specs.Run.{over};
+ghost use Rattle.call_steps.specs.Replies.{Replies};
 ghost use Rattle.call_mail.specs.Runs.{PlaceAsks, SendAsks, MessagePlaced, sendRun};
 use crate::copy::copy;
 use call_steps::objects::is_process;
+use call_steps::request::Reply;
 use call_steps::target::target;
 use layout::CASH;
 use layout::COUNT;
@@ -14,7 +14,6 @@ use layout::TEXT;
 use layout::WAITING;
 use values::cash::Cash;
 use values::code::BOX_FULL;
-use values::code::DONE;
 use values::code::NOT_PROCESS;
 use values::code::TOO_LITTLE;
 use values::limit::BOX_SLOTS;
@@ -41,26 +40,26 @@ pub fn send(
     me: usize,
     k: usize,
     sum: u32,
-) -> u32
+) -> Reply
     requires { ⌜ SendAsks (now bytes) (now links) (now words) (now text) me k ⌝ }
-    ensures { λ r. ⌜ over r (now (bytes .exit)) (now (links .entry)) (now (words .exit))
-        ≡ sendRun (now (bytes .entry)) (now (links .entry)) (now (words .entry)) (now (text .entry)) me k sum ⌝ }
+    ensures { λ r. ⌜ Replies r (now (bytes .exit)) (now (links .entry)) (now (words .exit))
+        (sendRun (now (bytes .entry)) (now (links .entry)) (now (words .entry)) (now (text .entry)) me k sum) ⌝ }
 {
     let o = target(links, k);
     if is_process(bytes, links, o) {
         if Cash(words[CASH + me]).below(sum) {
-            return TOO_LITTLE;
+            return Reply::refused(TOO_LITTLE);
         }
         let count = bytes[COUNT + o];
         if MAX_MESSAGES <= count {
-            return BOX_FULL;
+            return Reply::refused(BOX_FULL);
         }
         let left = Cash(words[CASH + me]).less(sum);
         words[CASH + me] = left.0;
         place(bytes, words, text, o * BOX_SLOTS + count as usize, sum);
         bytes[COUNT + o] = count + 1;
         bytes[WAITING + o] = 0;
-        return DONE;
+        return Reply::done();
     }
-    NOT_PROCESS
+    Reply::refused(NOT_PROCESS)
 }

@@ -10,7 +10,7 @@ use lib.ListN.{length}
 use borrow.Author.Tests.{leb-true}
 use Rattle.rules.specs.Store.{Cap, Object, State, blocks, objectNamed, objectsLive, capsLive, freeBlocks}
 use Rattle.rules.specs.Rights.{makeObj, op, asked, presents}
-use Rattle.rules.specs.Call.{Call, Choice}
+use Rattle.rules.specs.Call.{Call, Choice, handsBack}
 use Rattle.rules.specs.Refusals.{_when_, first, nameFits, argumentsFit, inRange}
 use Rattle.rules.specs.Changes.{newCap, newObject}
 use Rattle.rules.specs.Calls.{makeObjRefuses, madeObject, madeMaster, makeObjDoes, refuses, does}
@@ -23,10 +23,9 @@ use Rattle.layout.specs.WellFormed.{WellFormed}
 use Rattle.layout.proofs.Free.{objects-full, object-first, object-open}
 use Rattle.layout.proofs.FreeCaps.{FirstFree, first-free, caps-full, first-open}
 use Rattle.call_steps.specs.Run.{Meets, Ran, outcome, over}
-use Rattle.call_steps.specs.Replies.{handed}
 use Rattle.call_steps.specs.Tests.{ObjectSlot}
 use Rattle.call_steps.proofs.Meeting.{stopped, goes-on, Takes, meets-taken}
-use Rattle.call_steps.proofs.Replying.{handed-is}
+use Rattle.call_steps.proofs.Replying.{hands-back-is}
 use Rattle.call_blocks.proofs.Taken.{few-is, few-enough}
 use Rattle.call_grow.specs.Made.{freeCap}
 use Rattle.call_grow.proofs.Making.{made-words}
@@ -151,8 +150,8 @@ module _ {b l w : List ℕ} (f : WellFormed b l w) (c : Call) (me k : ℕ)
     rules-is : does s c me k taking makeObj ≡ outcome (made b l w o (c .name) (c .size) (c .flag) x)
     unfolding does makeObjDoes madeObject madeMaster made masterCap
     rules-is =
-        handed-is (c .name) (c .drawn) (newCap (newObject s o made-object) i x 0)
-        ∙ ap (λ r. record { answer = handed (c .name) (c .drawn); after = r }) (sym shows)
+        hands-back-is (c .name) (c .drawn) (newCap (newObject s o made-object) i x 0) s
+        ∙ ap (λ r. record { answer = handsBack (c .name) (c .drawn) s .answer; after = r }) (sym shows)
 
     takes : op (c .number) ≡ makeObj
         → Takes s c me k makeObj taking (made b l w o (c .name) (c .size) (c .flag) x)

@@ -8,10 +8,10 @@ use native.Mathlib.Omega.{arith}
 use lib.ListN.{length}
 use Rattle.rules.specs.Code as Code
 use Rattle.rules.specs.Store.{Name, Password, Cap, blocks, objectNamed}
-use Rattle.rules.specs.Call.{code}
+use Rattle.rules.specs.Call.{handsBack}
 use Rattle.layout.specs.View.{view}
 use Rattle.call_steps.specs.Refuses.{Refuses}
-use Rattle.call_steps.specs.Replies.{HandsBack, Replies}
+use Rattle.call_steps.specs.Replies.{Gives, Replies}
 use Rattle.call_steps.specs.declared.request.Reply.{Reply}
 use Rattle.call_steps.proofs.Replying.{replies-stopped, replies-done}
 use Rattle.call_blocks.specs.Taking.{clearedBytes, takenLinks, Enough}
@@ -100,13 +100,13 @@ module _ {b l w : List ℕ} {name : Name} {size flag rights : ℕ} (a : MakeAsks
 
   pub made-is : {drawn : Password} {r : Reply} (o : ℕ) → o ≡ freeObject l → objectNamed (view b l w) name ≡ 0
       → noSpace l (blocks size) ≡ false → {b′ l′ w′ : List ℕ}
-      → Places b l w o name size flag rights drawn b′ l′ w′ → HandsBack name drawn r
+      → Places b l w o name size flag rights drawn b′ l′ w′ → Gives (handsBack name drawn) r
       → Replies r b′ l′ w′ (makeRun b l w name size flag rights drawn)
   unfolding makeRun made masterCap
   made-is {drawn} {r} o e z h {b′} {l′} {w′} P R =
       replies-done b l w _ (stop-none b l w name size z h) (record {
         none = R .none;
-        answer = R .answer;
+        answer = R .answer (view b l w);
         bytes = P .bytes ∙ ap (λ i. madeBytes b l i (blocks size) (name .volume) flag) e;
         links = P .links ∙ ap (λ i. madeLinks l i (blocks size) (name .serial) size (masterCap i size rights drawn)) e;
         words = P .words ∙ ap (λ i. madeWords l w i (masterCap i size rights drawn)) e;

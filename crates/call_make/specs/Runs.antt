@@ -10,6 +10,7 @@ use lib.ListN.{length, getD, set}
 use Rattle.rules.specs.Code as Code
 use Rattle.rules.specs.Limit as Limit
 use Rattle.rules.specs.Store.{Name, Password, Cap, blocks, objectNamed}
+use Rattle.rules.specs.Call.{handsBack}
 use Rattle.rules.specs.Refusals.{_when_, first}
 use Rattle.layout.specs.Layout as Layout
 use Rattle.layout.specs.Rows.{masterOf, firstBlockOf, nextObjectOf, nextBlockOf}
@@ -17,7 +18,6 @@ use Rattle.layout.specs.View.{view}
 use Rattle.layout.specs.Shape.{Chain, times}
 use Rattle.layout.specs.WellFormed.{Sized}
 use Rattle.call_steps.specs.Run.{Ran, settled}
-use Rattle.call_steps.specs.Replies.{handed}
 use Rattle.call_steps.specs.Tests.{ObjectSlot, CapSlot}
 use Rattle.call_blocks.specs.Taking.{freeHead, tooFew, clearedBytes, takenLinks, FreeChain, Enough}
 use Rattle.call_grow.specs.declared.cap.NewCap.{NewCap}
@@ -90,7 +90,7 @@ madeWords l w o x = newWords (recordWords w o) (freeCap l) x 0
 -- the object made in slot o with its master x, which is handed back as drawn
 unfoldable pub made : List ℕ → List ℕ → List ℕ → ℕ → Name → ℕ → ℕ → Cap → Ran
 made b l w o name size flag x = record {
-  answer = handed name (x .password);
+  answer = handsBack name (x .password) (view b l w) .answer;
   bytes = madeBytes b l o (blocks size) (name .volume) flag;
   links = madeLinks l o (blocks size) (name .serial) size x;
   words = madeWords l w o x;

@@ -1,21 +1,20 @@
 // "apply_lock: 8. XORs the target's lockword."
-ghost use mathlib.Core.Path.{_≡_};
 ghost use Rattle.values.specs.Words.{lockwordOf};
-ghost use Rattle.call_steps.specs.Run.{over};
+ghost use Rattle.call_steps.specs.Replies.{Replies};
 ghost use Rattle.call_marks.specs.Runs.{LockAsks, lockRun};
 use crate::flag::has_flag;
+use call_steps::request::Reply;
 use call_steps::target::target;
 use layout::LOCK1;
 use layout::LOCK2;
-use values::code::DONE;
 use values::code::NOT_PROCESS;
 use values::password::xor_words;
 
 // The lockword of the object that capability k is for.
-pub fn apply_lock(bytes: &[u8], links: &[u16], words: &mut [u32], k: usize, lock: [u32; 2]) -> u32
+pub fn apply_lock(bytes: &[u8], links: &[u16], words: &mut [u32], k: usize, lock: [u32; 2]) -> Reply
     requires { ⌜ LockAsks (now bytes) (now links) (now words) k ⌝ }
-    ensures { λ r. ⌜ over r (now (bytes .entry)) (now (links .entry)) (now (words .exit))
-        ≡ lockRun (now (bytes .entry)) (now (links .entry)) (now (words .entry)) k (lockwordOf lock) ⌝ }
+    ensures { λ r. ⌜ Replies r (now (bytes .entry)) (now (links .entry)) (now (words .exit))
+        (lockRun (now (bytes .entry)) (now (links .entry)) (now (words .entry)) k (lockwordOf lock)) ⌝ }
 {
     let o = target(links, k);
     if has_flag(bytes, o) {
@@ -24,7 +23,7 @@ pub fn apply_lock(bytes: &[u8], links: &[u16], words: &mut [u32], k: usize, lock
         let x = xor_words([first, second], lock);
         words[LOCK1 + o] = x[0];
         words[LOCK2 + o] = x[1];
-        return DONE;
+        return Reply::done();
     }
-    NOT_PROCESS
+    Reply::refused(NOT_PROCESS)
 }

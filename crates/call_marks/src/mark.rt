@@ -5,50 +5,50 @@ ghost use mathlib.Core.List.{List};
 ghost use lib.ListN.{length};
 ghost use Rattle.rules.specs.Limit as Limit;
 ghost use Rattle.layout.specs.Layout as Layout;
-ghost use Rattle.call_steps.specs.Run.{over};
+ghost use Rattle.call_steps.specs.Replies.{Replies};
 ghost use Rattle.call_marks.specs.Runs.{MarkAsks, suspendedRun, waitRun};
 use crate::flag::has_flag;
+use call_steps::request::Reply;
 use call_steps::target::target;
 use layout::SUSPENDED;
 use layout::WAITING;
-use values::code::DONE;
 use values::code::NOT_PROCESS;
 
 // The suspended mark of the object that capability k is for, 1 set or 0 clear.
-fn set_suspended(bytes: &mut [u8], links: &[u16], k: usize, mark: u8) -> u32
+fn set_suspended(bytes: &mut [u8], links: &[u16], k: usize, mark: u8) -> Reply
     requires { ⌜ MarkAsks (now bytes) (now links) k ⌝ }
-    ensures { λ r. ⌜ ((w : List ℕ) → over r (now (bytes .exit)) (now (links .entry)) w
-        ≡ suspendedRun (now (bytes .entry)) (now (links .entry)) w k mark) ⌝ }
+    ensures { λ r. ⌜ ((w : List ℕ) → Replies r (now (bytes .exit)) (now (links .entry)) w
+        (suspendedRun (now (bytes .entry)) (now (links .entry)) w k mark)) ⌝ }
 {
     let o = target(links, k);
     if has_flag(bytes, o) {
         bytes[SUSPENDED + o] = mark;
-        return DONE;
+        return Reply::done();
     }
-    NOT_PROCESS
+    Reply::refused(NOT_PROCESS)
 }
 
-pub fn suspend(bytes: &mut [u8], links: &[u16], k: usize) -> u32
+pub fn suspend(bytes: &mut [u8], links: &[u16], k: usize) -> Reply
     requires { ⌜ MarkAsks (now bytes) (now links) k ⌝ }
-    ensures { λ r. ⌜ ((w : List ℕ) → over r (now (bytes .exit)) (now (links .entry)) w
-        ≡ suspendedRun (now (bytes .entry)) (now (links .entry)) w k 1) ⌝ }
+    ensures { λ r. ⌜ ((w : List ℕ) → Replies r (now (bytes .exit)) (now (links .entry)) w
+        (suspendedRun (now (bytes .entry)) (now (links .entry)) w k 1)) ⌝ }
 {
     set_suspended(bytes, links, k, 1)
 }
 
-pub fn resume(bytes: &mut [u8], links: &[u16], k: usize) -> u32
+pub fn resume(bytes: &mut [u8], links: &[u16], k: usize) -> Reply
     requires { ⌜ MarkAsks (now bytes) (now links) k ⌝ }
-    ensures { λ r. ⌜ ((w : List ℕ) → over r (now (bytes .exit)) (now (links .entry)) w
-        ≡ suspendedRun (now (bytes .entry)) (now (links .entry)) w k 0) ⌝ }
+    ensures { λ r. ⌜ ((w : List ℕ) → Replies r (now (bytes .exit)) (now (links .entry)) w
+        (suspendedRun (now (bytes .entry)) (now (links .entry)) w k 0)) ⌝ }
 {
     set_suspended(bytes, links, k, 0)
 }
 
 // The waiting mark of the caller, in slot me.
-pub fn wait(bytes: &mut [u8], me: usize) -> u32
+pub fn wait(bytes: &mut [u8], me: usize) -> Reply
     requires { ⌜ length (now bytes) ≡ Layout.BYTES ⌝ ∗ ⌜ me ≤ Limit.objects ⌝ }
-    ensures { λ r. ⌜ ((l w : List ℕ) → over r (now (bytes .exit)) l w ≡ waitRun (now (bytes .entry)) l w me) ⌝ }
+    ensures { λ r. ⌜ ((l w : List ℕ) → Replies r (now (bytes .exit)) l w (waitRun (now (bytes .entry)) l w me)) ⌝ }
 {
     bytes[WAITING + me] = 1;
-    DONE
+    Reply::done()
 }

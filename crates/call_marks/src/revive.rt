@@ -3,15 +3,15 @@
 ghost use mathlib.Core.Path.{_≡_};
 ghost use lib.ListN.{length};
 ghost use Rattle.layout.specs.Layout as Layout;
-ghost use Rattle.call_steps.specs.Run.{over};
+ghost use Rattle.call_steps.specs.Replies.{Replies};
 ghost use Rattle.call_steps.specs.Tests.{ObjectSlot};
 ghost use Rattle.call_marks.specs.Runs.{Room, ReviveAsks, movedWords, reviveRun};
 use crate::flag::has_flag;
+use call_steps::request::Reply;
 use call_steps::target::target;
 use layout::CASH;
 use layout::TERMINATED;
 use values::cash::Cash;
-use values::code::DONE;
 use values::code::NOT_PROCESS;
 use values::code::NOT_REVIVABLE;
 use values::code::TOO_LITTLE;
@@ -35,25 +35,25 @@ pub fn revive(
     me: usize,
     k: usize,
     sum: u32,
-) -> u32
+) -> Reply
     requires { ⌜ ReviveAsks (now bytes) (now links) (now words) me k sum ⌝ }
-    ensures { λ r. ⌜ over r (now (bytes .exit)) (now (links .entry)) (now (words .exit))
-        ≡ reviveRun (now (bytes .entry)) (now (links .entry)) (now (words .entry)) me k sum ⌝ }
+    ensures { λ r. ⌜ Replies r (now (bytes .exit)) (now (links .entry)) (now (words .exit))
+        (reviveRun (now (bytes .entry)) (now (links .entry)) (now (words .entry)) me k sum) ⌝ }
 {
     let o = target(links, k);
     if has_flag(bytes, o) {
         if bytes[TERMINATED + o] == 0 {
-            return NOT_REVIVABLE;
+            return Reply::refused(NOT_REVIVABLE);
         }
         if sum == 0 {
-            return NOT_REVIVABLE;
+            return Reply::refused(NOT_REVIVABLE);
         }
         if Cash(words[CASH + me]).below(sum) {
-            return TOO_LITTLE;
+            return Reply::refused(TOO_LITTLE);
         }
         move_cash(words, me, o, sum);
         bytes[TERMINATED + o] = 0;
-        return DONE;
+        return Reply::done();
     }
-    NOT_PROCESS
+    Reply::refused(NOT_PROCESS)
 }

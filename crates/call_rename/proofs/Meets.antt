@@ -10,7 +10,7 @@ use lib.Dec.{eqb}
 use borrow.Author.Tests.{eq-eqb}
 use Rattle.rules.specs.Store.{Cap, State, noCap, capLives}
 use Rattle.rules.specs.Rights.{Op, makeObj, deriveCap, renameObj, op, asked}
-use Rattle.rules.specs.Call.{Call, Choice}
+use Rattle.rules.specs.Call.{Call, Choice, handsBack}
 use Rattle.rules.specs.Password.{presented}
 use Rattle.rules.specs.Refusals.{first, caller}
 use Rattle.rules.specs.Calls.{renameObjRefuses, renameObjDoes, emptied, refuses, does}
@@ -23,9 +23,8 @@ use Rattle.layout.specs.WellFormed.{WellFormed}
 use Rattle.layout.proofs.Shaped.{shaped}
 use Rattle.layout.proofs.Shown.{cap-object, parent-is}
 use Rattle.call_steps.specs.Run.{Held, Meets}
-use Rattle.call_steps.specs.Replies.{handed}
 use Rattle.call_steps.proofs.Meeting.{Takes, meets-taken}
-use Rattle.call_steps.proofs.Replying.{handed-is}
+use Rattle.call_steps.proofs.Replying.{hands-back-is}
 use Rattle.call_steps.proofs.Sharing.{p1-taken-is}
 use Rattle.call_prune.specs.Links.{Living}
 use Rattle.call_prune.proofs.Measuring.{pruned}
@@ -98,8 +97,8 @@ module _ {b l w : List ℕ} (W : WellFormed b l w) (c : Call) (me k : ℕ) (H : 
     unfolding does renameObjDoes renamed
     rename-takes z = record {
       free = open-k;
-      rules = handed-is (s .object (s .cap k .object) .name) (c .drawn) _ ∙ (λ x. record {
-        answer = handed (s .object (cap-object b l w k x) .name) (c .drawn);
+      rules = hands-back-is (s .object (s .cap k .object) .name) (c .drawn) _ s ∙ (λ x. record {
+        answer = handsBack (s .object (cap-object b l w k x) .name) (c .drawn) s .answer;
         after = sym (renamed-view W L (master-k z) c me) x;
       });
       sized = let r = rows-sized W (pruned L .rows) in record {

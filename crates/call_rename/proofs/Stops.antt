@@ -9,18 +9,17 @@ use lib.ListN.{getD}
 use borrow.Author.Tests.{eq-eqb, ne-eqb}
 use Rattle.rules.specs.Slots.{some}
 use Rattle.rules.specs.Store.{Name, Password}
-use Rattle.rules.specs.Call.{Answer, code}
+use Rattle.rules.specs.Call.{handsBack}
 use Rattle.rules.specs.Refusals.{_when_, first}
 use Rattle.layout.specs.Layout as Layout
 use Rattle.layout.specs.Rows.{field, ownerOf, parentOf}
 use Rattle.layout.specs.View.{view}
 use Rattle.layout.proofs.Field.{field-in, field-low, field-high}
-use Rattle.call_steps.specs.Request.{answerOf}
 use Rattle.call_steps.specs.Refuses.{Refuses}
-use Rattle.call_steps.specs.Replies.{handed, HandsBack}
+use Rattle.call_steps.specs.Replies.{Gives}
 use Rattle.call_steps.specs.Tests.{CapSlot, taken}
 use Rattle.call_steps.specs.declared.request.Reply.{Reply}
-use Rattle.call_steps.proofs.Replying.{replies-stopped, replies-done}
+use Rattle.call_steps.proofs.Replying.{refused-code, gives-code, replies-stopped, replies-done}
 use Rattle.call_prune.specs.Links.{Living}
 use Rattle.call_prune.proofs.Clearing.{scratch-done, scratch-kept}
 use Rattle.call_rename.specs.Runs.{renameStop, renamed, renameRun, Renews, Renames}
@@ -35,16 +34,6 @@ slot-of {l} {k} L = record {
 
 pub cell : {l : List ℕ} {k : ℕ} → Living l k → (off : ℕ) → field 512 off l k ≡ getD l (off + k) 0
 cell {l} {k} L off = let at = slot-of L in field-in 512 off l k (at .low) (at .high)
-
--- ---- the code of a reply
-
-refused-code : {n : ℕ} {r : Reply} → Refuses n r → r .code ≡ n
-unfolding answerOf code
-refused-code R = ap (λ (a : Answer). a .code) (R .answer)
-
-handed-code : {n : Name} {p : Password} {r : Reply} → HandsBack n p r → r .code ≡ 0
-unfolding answerOf handed
-handed-code H = ap (λ (a : Answer). a .code) (H .answer)
 
 -- ---- the run
 
@@ -78,16 +67,16 @@ module _ {b l w scratch : List ℕ} {k : ℕ} {drawn : Password} {r : Reply} whe
     }
 
     pub renews : {l′ w′ scratch′ : List ℕ} {n : Name} → t ≡ false → n ≡ view b l w .object o .name
-        → HandsBack n drawn r → Renews l w scratch k drawn l′ w′ scratch′
+        → Gives (handsBack n drawn) r → Renews l w scratch k drawn l′ w′ scratch′
         → Renames b l w scratch k drawn r l′ w′ scratch′
-    unfolding renameRun renameStop renamed first _when_
+    unfolding renameRun renameStop renamed first _when_ handsBack
     renews x n H N = record {
       replies = replies-done b l w (renamed b l w k drawn) (rw (eq-eqb (parentOf l k) 0 z, test-is b l w k (drawn .p1) q e, x)) (record {
         none = H .none;
-        answer = H .answer ∙ ap (λ i. handed i drawn) (n ∙ ap (λ i. view b l w .object i .name) q);
+        answer = H .answer (view b l w) ∙ ap (λ i. handsBack i drawn (view b l w) .answer) (n ∙ ap (λ i. view b l w .object i .name) q);
         bytes = refl;
         links = N .links;
         words = N .words;
       });
-      scratch-left = N .cleared ∙ scratch-done (r .code) scratch (handed-code H);
+      scratch-left = N .cleared ∙ scratch-done (r .code) scratch (gives-code H (view b l w));
     }

@@ -11,13 +11,14 @@ use Rattle.rules.specs.Limit as Limit
 use Rattle.rules.specs.Code as Code
 use Rattle.rules.specs.Slots.{some}
 use Rattle.rules.specs.Store.{Password}
+use Rattle.rules.specs.Call.{handsBack}
 use Rattle.rules.specs.Refusals.{_when_, first}
 use Rattle.layout.specs.Layout as Layout
 use Rattle.layout.specs.Rows.{masterOf, ownerOf, parentOf}
 use Rattle.layout.specs.View.{view}
 use Rattle.layout.specs.WellFormed.{Sized}
 use Rattle.call_steps.specs.Run.{Ran, settled}
-use Rattle.call_steps.specs.Replies.{handed, Replies}
+use Rattle.call_steps.specs.Replies.{Replies}
 use Rattle.call_steps.specs.Tests.{ObjectSlot, taken}
 use Rattle.call_steps.specs.declared.request.Reply.{Reply}
 use Rattle.call_prune.specs.Links.{prunedLinks, Living}
@@ -50,7 +51,7 @@ renameStop b l w k p1 = first
 -- the new master handed back as drawn
 unfoldable pub renamed : List ℕ → List ℕ → List ℕ → ℕ → Password → Ran
 renamed b l w k drawn = record {
-  answer = handed (view b l w .object (ownerOf l k) .name) drawn;
+  answer = handsBack (view b l w .object (ownerOf l k) .name) drawn (view b l w) .answer;
   bytes = b;
   links = prunedLinks l k;
   words = renamedWords w k drawn;

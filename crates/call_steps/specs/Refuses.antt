@@ -1,4 +1,4 @@
--- A reply that refuses, or is done and has nothing to tell: the rules' answer of the code alone, with no bytes in the buffer.
+-- A reply that refuses: the rules' answer of the code alone, with no bytes in the buffer.
 use Prim.Native.Nat.{ℕ}
 use mathlib.Core.Path.{_≡_}
 use mathlib.Core.List.{[]}

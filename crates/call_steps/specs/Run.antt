@@ -10,7 +10,7 @@ use Rattle.rules.specs.Code as Code
 use Rattle.rules.specs.Limit as Limit
 use Rattle.rules.specs.Store.{State}
 use Rattle.rules.specs.Rights.{Op}
-use Rattle.rules.specs.Call.{Call, Answer, Outcome, Choice, code}
+use Rattle.rules.specs.Call.{Call, Answer, Outcome, Choice, code, handsOver}
 use Rattle.rules.specs.Refusals.{first}
 use Rattle.rules.specs.Calls.{refuses, does}
 use Rattle.rules.specs.Demand.{Open}
@@ -49,6 +49,15 @@ pub record Ran : Type 0 where
 -- the code n, and nothing to tell
 unfoldable pub over : ℕ → List ℕ → List ℕ → List ℕ → Ran
 over n b l w = record { answer = code n; bytes = b; links = l; words = w }
+
+-- a sum and bytes are handed over
+unfoldable pub handedOver : ℕ → List ℕ → List ℕ → List ℕ → List ℕ → Ran
+handedOver sum xs b l w = record {
+  answer = handsOver sum xs (view b l w) .answer;
+  bytes = b;
+  links = l;
+  words = w;
+}
 
 -- the refusal n, and nothing changed; where n is 0, the run x
 unfoldable pub settled : ℕ → List ℕ → List ℕ → List ℕ → Ran → Ran

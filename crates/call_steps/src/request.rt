@@ -1,9 +1,12 @@
 // A request as it comes by value, and the reply to it: the rules' call and answer, without the lent slices.
+ghost use mathlib.Core.Path.{_≡_};
+ghost use Rattle.rules.specs.Call.{noCapability, done, handsBack, tells};
 ghost use Rattle.values.specs.Words.{passwordOf};
-ghost use Rattle.call_steps.specs.Request.{nameOf};
+ghost use Rattle.call_steps.specs.Request.{nameOf, capabilityOf};
 ghost use Rattle.call_steps.specs.Refuses.{Refuses};
-ghost use Rattle.call_steps.specs.Replies.{HandsBack};
+ghost use Rattle.call_steps.specs.Replies.{Gives, HandsOver};
 use values::code::DONE;
+use values::moneyword::Moneyword;
 use values::window::Window;
 
 // An object's name: its volume and a serial.
@@ -16,6 +19,21 @@ pub struct Name {
 pub struct Capability {
     pub name: Name,
     pub password: [u32; 2],
+}
+
+impl Capability {
+    // None.
+    fn none() -> Capability
+        ensures { λ r. ⌜ capabilityOf r ≡ noCapability ⌝ }
+    {
+        Capability {
+            name: Name {
+                volume: 0,
+                serial: 0,
+            },
+            password: [0, 0],
+        }
+    }
 }
 
 // Every call's arguments by their names; a call looks at its own alone. Pairs stand first, so that each lies in one
@@ -46,34 +64,37 @@ pub struct Reply {
 }
 
 impl Reply {
-    // 0 or a refusal alone: the other result fields are 0.
-    pub fn answered(code: u32) -> Reply
-        ensures { λ r. ⌜ Refuses code r ⌝ }
+    // A done call with nothing to tell.
+    pub fn done() -> Reply
+        ensures { λ r. ⌜ Gives done r ⌝ }
     {
         Reply {
-            code,
-            capability: Capability {
-                name: Name {
-                    volume: 0,
-                    serial: 0,
-                },
-                password: [0, 0],
-            },
+            code: DONE,
+            capability: Capability::none(),
             length: 0,
             moneyword: 0,
             sum: 0,
             count: 0,
         }
     }
+
     // A refusal.
     pub fn refused(code: u32) -> Reply
         ensures { λ r. ⌜ Refuses code r ⌝ }
     {
-        Reply::answered(code)
+        Reply {
+            code,
+            capability: Capability::none(),
+            length: 0,
+            moneyword: 0,
+            sum: 0,
+            count: 0,
+        }
     }
+
     // A new capability, as drawn.
     pub fn hands_back(name: Name, password: [u32; 2]) -> Reply
-        ensures { λ r. ⌜ HandsBack (nameOf name) (passwordOf password) r ⌝ }
+        ensures { λ r. ⌜ Gives (handsBack (nameOf name) (passwordOf password)) r ⌝ }
     {
         Reply {
             code: DONE,
@@ -83,6 +104,34 @@ impl Reply {
             },
             length: 0,
             moneyword: 0,
+            sum: 0,
+            count: 0,
+        }
+    }
+
+    // A sum, and `count` bytes at the buffer's front.
+    pub fn hands_over(sum: u32, count: u32) -> Reply
+        ensures { λ r. ⌜ HandsOver sum count r ⌝ }
+    {
+        Reply {
+            code: DONE,
+            capability: Capability::none(),
+            length: 0,
+            moneyword: 0,
+            sum: sum,
+            count: count,
+        }
+    }
+
+    // A window's length and a moneyword.
+    pub fn tells(length: u32, moneyword: Moneyword) -> Reply
+        ensures { λ r. ⌜ Gives (tells length (moneyword .0)) r ⌝ }
+    {
+        Reply {
+            code: DONE,
+            capability: Capability::none(),
+            length: length,
+            moneyword: moneyword.0,
             sum: 0,
             count: 0,
         }

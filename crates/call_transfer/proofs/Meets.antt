@@ -15,9 +15,9 @@ use Rattle.layout.specs.Rows.{masterOf, sizeOf, firstBlockOf, ownerOf}
 use Rattle.layout.specs.View.{view}
 use Rattle.layout.specs.WellFormed.{Plain}
 use Rattle.layout.proofs.Shown.{cap-object, cap-here, bytes-here}
-use Rattle.call_steps.specs.Run.{Held, MeetsPlain, over}
+use Rattle.call_steps.specs.Run.{Held, MeetsPlain, over, handedOver}
 use Rattle.call_steps.proofs.Meeting.{takes, DoesPlain, plain-settled}
-use Rattle.call_transfer.specs.Runs.{range, window, inside, bytesIn, handedOver, copiedIn, readRun, writeRun}
+use Rattle.call_transfer.specs.Runs.{range, window, inside, bytesIn, copiedIn, readRun, writeRun}
 use Rattle.call_transfer.proofs.Stops.{inside-no, ends-in}
 use Rattle.call_transfer.proofs.Requires.{target-of}
 use Rattle.call_transfer.proofs.Stored.{replaced, after-length, write-stored, write-cells}

@@ -1,18 +1,20 @@
 -- What the code copied is the object's bytes start to end, laid over the buffer.
 use Prim.Native.Nat.{ℕ, _+_, _-_, _≤_, _<_}
-use mathlib.Core.Path.{_≡_, sym, ap, _∙_}
+use mathlib.Core.Path.{_≡_, sym, ap, _∙_, subst}
 use mathlib.Core.Bool.{true, false}
 use mathlib.Core.List.{List, _++_}
 use native.Mathlib.Omega.{arith}
 use native.Mathlib.Decide.{decLe}
 use lib.ListN.{getD, drop, length, length-append, length-drop, List·getD-append}
 use lib.Seq.{getD-drop, getD-append-add, ext-getD}
-use Rattle.rules.specs.Call.{code, handsOver}
 use Rattle.rules.specs.Calls.{liesIn}
 use Rattle.layout.specs.Rows.{sizeOf, firstBlockOf, ownerOf}
-use Rattle.call_steps.specs.Run.{Ran, over, overlay}
+use Rattle.call_steps.specs.declared.request.Reply.{Reply}
+use Rattle.call_steps.specs.Run.{over, handedOver, overlay}
+use Rattle.call_steps.specs.Replies.{HandsOver, Fills}
 use Rattle.call_steps.proofs.Meeting.{stopped, goes-on}
-use Rattle.call_transfer.specs.Runs.{cellOf, laid, copiedOut, range, window, part, handedOver, readRun, Reads, ReadAsks}
+use Rattle.call_steps.proofs.Replying.{fills-done}
+use Rattle.call_transfer.specs.Runs.{cellOf, laid, copiedOut, range, window, part, readRun, ReadAsks}
 use Rattle.call_transfer.proofs.Laid.{laid-length, laid-other, laid-at}
 use Rattle.call_transfer.proofs.Places.{part-length, part-at}
 use Rattle.call_transfer.proofs.Stops.{inside-no, inside-yes, ends-in}
@@ -51,37 +53,26 @@ module _ (value : ℕ → ℕ) (xs buffer : List ℕ) (n : ℕ) (long : length x
 
 -- ---- the run
 
-module _ {b l w buffer : List ℕ} {k start end : ℕ} where
-  -- 7, and the buffer as it was
-  pub reads-met : liesIn (range start end) (window w k) ≡ false
-      → Reads b l w buffer k start end 7 buffer
-  unfolding readRun over code overlay
-  reads-met e =
-      let done : Ran = handedOver (part b l (ownerOf l k) start end) b l w in
-      let run = stopped b l w done 7 (inside-no w k start end e) (omega arith) in
-      record {
-        code = ap (λ (r : Ran). r .answer .code) run;
-        buffer-is = ap (λ (r : Ran). overlay (r .answer .bytes) buffer) run;
-      }
+module _ {b l w buffer : List ℕ} {k start end : ℕ} (a : ReadAsks b l w buffer k start end) where
+  pub reads-met : liesIn (range start end) (window w k) ≡ false → over 7 b l w ≡ readRun b l w k start end
+  unfolding readRun
+  reads-met e = stopped b l w _ 7 (inside-no w k start end e) (omega arith)
 
   -- the bytes that were copied
-  pub reads-done : ReadAsks b l w buffer k start end → (head : ℕ) → head ≡ firstBlockOf l (ownerOf l k)
+  pub reads-done : (head : ℕ) → head ≡ firstBlockOf l (ownerOf l k)
       → liesIn (range start end) (window w k) ≡ true
       → (after : List ℕ) → after ≡ copiedOut b l head start (end - start) buffer
-      → Reads b l w buffer k start end 0 after
-  unfolding readRun handedOver handsOver
-  reads-done a head h e after c =
+      → {r : Reply} → HandsOver 0 (end - start) r → Fills r b l w buffer after (readRun b l w k start end)
+  unfolding readRun
+  reads-done head h e after c {r} H =
       let o : ℕ = ownerOf l k in
       let t = a .target in
       let fits : end ≤ sizeOf l o = omega (arith, ends-in w k start end e, t .fits) in
-      let run = goes-on b l w (handedOver (part b l o start end) b l w) (inside-yes w k start end e) in
-      record {
-        code = ap (λ (r : Ran). r .answer .code) run;
-        buffer-is = c ∙ ap (λ x. copiedOut b l x start (end - start) buffer) h
-            ∙ laid-over (λ i. getD b (cellOf l (firstBlockOf l o) (start + i)) 0) (part b l o start end) buffer
-            (end - start)
-            (part-length b l o (a .sized .bytes) (t .chain .0) (t .chain .1) (t .chain .2) start end (a .ordered) fits)
-            (omega (arith, a .short, a .room))
-            (part-at b l o (a .sized .bytes) (t .chain .0) (t .chain .1) (t .chain .2) start end (a .ordered) fits)
-            ∙ ap (λ (r : Ran). overlay (r .answer .bytes) buffer) run;
-      }
+      let long : length (part b l o start end) ≡ end - start =
+      part-length b l o (a .sized .bytes) (t .chain .0) (t .chain .1) (t .chain .2) start end (a .ordered) fits in
+      fills-done buffer (part b l o start end) after (subst (λ n. HandsOver 0 n r) (sym long) H)
+      (c ∙ ap (λ x. copiedOut b l x start (end - start) buffer) h
+      ∙ laid-over (λ i. getD b (cellOf l (firstBlockOf l o) (start + i)) 0) (part b l o start end) buffer (end - start)
+      long (omega (arith, a .short, a .room))
+      (part-at b l o (a .sized .bytes) (t .chain .0) (t .chain .1) (t .chain .2) start end (a .ordered) fits))
+      (goes-on b l w (handedOver 0 (part b l o start end) b l w) (inside-yes w k start end e))

@@ -8,15 +8,14 @@ use lib.ListN.{length, getD, set, take, drop}
 use Rattle.rules.specs.Code as Code
 use Rattle.rules.specs.Limit as Limit
 use Rattle.rules.specs.Store.{Window, blocks}
-use Rattle.rules.specs.Call.{handsOver}
 use Rattle.rules.specs.Refusals.{_when_, first}
 use Rattle.rules.specs.Calls.{liesIn}
 use Rattle.layout.specs.Layout as Layout
 use Rattle.layout.specs.Rows.{sizeOf, firstBlockOf, ownerOf, nextBlockOf, startOf, endOf, dataIn}
-use Rattle.layout.specs.View.{gather, view}
+use Rattle.layout.specs.View.{gather}
 use Rattle.layout.specs.Shape.{Chain}
 use Rattle.layout.specs.WellFormed.{Sized}
-use Rattle.call_steps.specs.Run.{Target, Ran, over, settled, overlay}
+use Rattle.call_steps.specs.Run.{Target, Ran, over, handedOver, settled}
 
 -- ---- places
 
@@ -68,22 +67,8 @@ bytesIn b l o = take (sizeOf l o) (gather (blocks (sizeOf l o)) (nextBlockOf l) 
 abbrev pub part : List ℕ → List ℕ → ℕ → ℕ → ℕ → List ℕ
 part b l o start end = take (end - start) (drop start (bytesIn b l o))
 
--- bytes are handed over, and nothing changed
-unfoldable pub handedOver : List ℕ → List ℕ → List ℕ → List ℕ → Ran
-handedOver xs b l w = record {
-  answer = handsOver 0 xs (view b l w) .answer;
-  bytes = b;
-  links = l;
-  words = w;
-}
-
 unfoldable pub readRun : List ℕ → List ℕ → List ℕ → ℕ → ℕ → ℕ → Ran
-readRun b l w k start end = settled (inside w k start end) b l w (handedOver (part b l (ownerOf l k) start end) b l w)
-
--- the code and the buffer are those of the run
-pub record Reads (b l w buffer : List ℕ) (k start end r : ℕ) (after : List ℕ) : Type 0 where
-  pub code : r ≡ readRun b l w k start end .answer .code
-  pub buffer-is : after ≡ overlay (readRun b l w k start end .answer .bytes) buffer
+readRun b l w k start end = settled (inside w k start end) b l w (handedOver 0 (part b l (ownerOf l k) start end) b l w)
 
 -- ---- write
 

@@ -3,15 +3,16 @@
 ghost use Prim.Native.Nat.{_≤_};
 ghost use mathlib.Core.Path.{_≡_};
 ghost use lib.ListN.{length};
-ghost use Rattle.call_transfer.specs.Runs.{CopyAsks, copiedOut, ReadAsks, Reads};
+ghost use Rattle.call_steps.specs.Replies.{Fills};
+ghost use Rattle.call_transfer.specs.Runs.{CopyAsks, copiedOut, ReadAsks, readRun};
 use crate::chain::block_at;
 use crate::chain::next_block;
 use crate::part::copy_part;
 use crate::part::part_of;
 use crate::window::first_block;
 use crate::window::in_window;
+use call_steps::request::Reply;
 use layout::DATA;
-use values::code::DONE;
 use values::code::OUTSIDE_WINDOW;
 use values::limit::BLOCK_SIZE;
 
@@ -42,10 +43,10 @@ pub fn read(
     k: usize,
     start: u32,
     end: u32,
-) -> u32
+) -> Reply
     requires { ⌜ ReadAsks (now bytes) (now links) (now words) (now buffer) k start end ⌝ }
-    ensures { λ r. ⌜ Reads (now (bytes .entry)) (now (links .entry)) (now (words .entry)) (now (buffer .entry))
-        k start end r (now (buffer .exit)) ⌝ }
+    ensures { λ r. ⌜ Fills r (now (bytes .entry)) (now (links .entry)) (now (words .entry)) (now (buffer .entry)) (now (buffer .exit))
+        (readRun (now (bytes .entry)) (now (links .entry)) (now (words .entry)) k start end) ⌝ }
 {
     if in_window(words, k, start, end) {
         let head = first_block(links, k);
@@ -57,7 +58,7 @@ pub fn read(
             start as usize,
             (end - start) as usize,
         );
-        return DONE;
+        return Reply::hands_over(0, end - start);
     }
-    OUTSIDE_WINDOW
+    Reply::refused(OUTSIDE_WINDOW)
 }

@@ -2,7 +2,7 @@
 // text.
 ghost use mathlib.Core.Path.{_≡_};
 ghost use lib.ListN.{length};
-ghost use Rattle.call_steps.specs.Run.{over};
+ghost use Rattle.call_steps.specs.Replies.{Replies};
 ghost use Rattle.call_transfer.specs.Runs.{CopyAsks, copiedIn, WriteAsks, writeRun};
 use crate::chain::block_at;
 use crate::chain::next_block;
@@ -10,8 +10,8 @@ use crate::part::copy_part;
 use crate::part::part_of;
 use crate::window::first_block;
 use crate::window::in_window;
+use call_steps::request::Reply;
 use layout::DATA;
-use values::code::DONE;
 use values::code::OUTSIDE_WINDOW;
 use values::limit::BLOCK_SIZE;
 
@@ -42,15 +42,15 @@ pub fn write(
     k: usize,
     start: u32,
     end: u32,
-) -> u32
+) -> Reply
     requires { ⌜ WriteAsks (now bytes) (now links) (now words) (now text) k start end ⌝ }
-    ensures { λ r. ⌜ over r (now (bytes .exit)) (now (links .entry)) (now (words .entry))
-        ≡ writeRun (now (bytes .entry)) (now (links .entry)) (now (words .entry)) k start end (now (text .entry)) ⌝ }
+    ensures { λ r. ⌜ Replies r (now (bytes .exit)) (now (links .entry)) (now (words .entry))
+        (writeRun (now (bytes .entry)) (now (links .entry)) (now (words .entry)) k start end (now (text .entry))) ⌝ }
 {
     if in_window(words, k, start, end) {
         let head = first_block(links, k);
         copy_in(bytes, links, text, head, start as usize);
-        return DONE;
+        return Reply::done();
     }
-    OUTSIDE_WINDOW
+    Reply::refused(OUTSIDE_WINDOW)
 }

@@ -10,7 +10,7 @@ use Rattle.rules.specs.Store.{State}
 use Rattle.rules.specs.Rights.{Op, makeObj, read, write, capInfo, deriveCap, deleteCap, renameObj, withdraw}
 use Rattle.rules.specs.Rights.{deposit, suspend, resume, applyLock, send, receive, wait, revive, unknown}
 use Rattle.rules.specs.Rights.{op, feeOf}
-use Rattle.rules.specs.Call.{Call, Choice, code, tells, handsOver}
+use Rattle.rules.specs.Call.{Call, Choice, code, handsBack, handsOver, tells}
 use Rattle.rules.specs.Code as Code
 use Rattle.rules.specs.Refusals.{first, caller, early, presenting}
 use Rattle.rules.specs.Rule.{paid, rule, isDone}
@@ -21,15 +21,14 @@ use Rattle.rules.proofs.Outcomes.{rule-by}
 use Rattle.layout.specs.Rows.{parentOf}
 use Rattle.layout.specs.View.{view}
 use Rattle.call_steps.specs.Paying.{paidWords}
-use Rattle.call_steps.specs.Replies as Replies
-use Rattle.call_steps.specs.Run.{Ran, over, settled}
+use Rattle.call_steps.specs.Run.{Ran, over, handedOver, settled}
 use Rattle.call_steps.proofs.Meeting.{stopped, goes-on}
 use Rattle.call_enter.specs.Entry.{shownSlot, OwnPart, stepWith}
 use Rattle.call_enter.proofs.Stepping.{step-by}
 use Rattle.call_marks.specs.Runs.{suspendedRun, lockRun, waitRun, reviveRun, infoRun, told}
 use Rattle.call_purse.specs.Calls.{withdrawRun, depositRun}
-use Rattle.call_transfer.specs.Runs.{readRun, writeRun, handedOver}
-use Rattle.call_mail.specs.Runs.{sendRun, receiveRun, answered}
+use Rattle.call_transfer.specs.Runs.{readRun, writeRun}
+use Rattle.call_mail.specs.Runs.{sendRun, receiveRun}
 use Rattle.call_make.specs.Runs.{makeRun, made}
 use Rattle.call_derive.specs.Runs.{deriveRun, derived}
 use Rattle.call_delete.specs.Runs.{deleteRun}
@@ -59,7 +58,7 @@ module _ (b l w : List ℕ) where
 
   pub own-leaves : (c : Call) (me k : ℕ) (o : Op) → Refusing b l w (ownRun b l w c me k o)
   unfolding ownRun suspendedRun lockRun waitRun reviveRun infoRun told tells readRun writeRun handedOver handsOver sendRun
-      receiveRun answered withdrawRun depositRun makeRun made deriveRun derived deleteRun renameRun renamed Replies.handed over code
+      receiveRun withdrawRun depositRun makeRun made deriveRun derived deleteRun renameRun renamed handsBack over code
   own-leaves c me k makeObj = settled-leaves _ _ refl
   own-leaves c me k read = settled-leaves _ _ refl
   own-leaves c me k write = settled-leaves _ _ refl

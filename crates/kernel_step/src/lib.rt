@@ -4,7 +4,6 @@ ghost use Rattle.kernel_step.specs.Slices.{slices};
 ghost use Rattle.kernel_step.specs.Steps.{Stepped};
 
 mod own;
-mod replies;
 
 use call_enter::enter::enter;
 use call_steps::request::Reply;

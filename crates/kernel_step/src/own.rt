@@ -4,19 +4,23 @@ ghost use Rattle.call_steps.specs.Request.{callOf};
 ghost use Rattle.kernel_step.specs.Slices.{slices};
 ghost use Rattle.kernel_step.specs.Asks.{OwnAsks};
 ghost use Rattle.kernel_step.specs.Ends.{OwnEnds};
-use crate::replies;
 use call_delete::delete_cap;
 use call_derive::derive_cap;
+use call_mail::receive::receive;
 use call_mail::send::send;
 use call_make::make_obj;
+use call_marks::info::cap_info;
 use call_marks::lock::apply_lock;
 use call_marks::mark::resume;
 use call_marks::mark::suspend;
 use call_marks::mark::wait;
 use call_marks::revive::revive;
+use call_purse::deposit;
+use call_purse::withdraw;
 use call_rename::rename_obj;
 use call_steps::request::Reply;
 use call_steps::request::Request;
+use call_transfer::read::read;
 use call_transfer::write::write;
 use values::code::OUT_OF_RANGE;
 
@@ -44,21 +48,21 @@ pub(crate) fn own(
     let drawn = req.drawn;
     match n {
         1 => make_obj(bytes, links, words, req),
-        2 => replies::read(bytes, links, words, buffer, k, range),
-        3 => Reply::answered(write(bytes, links, words, text, k, range.start, range.end)),
-        4 => replies::cap_info(words, k),
+        2 => read(bytes, links, words, buffer, k, range.start, range.end),
+        3 => write(bytes, links, words, text, k, range.start, range.end),
+        4 => cap_info(words, k),
         5 => derive_cap(bytes, links, words, k, req.rights, range, drawn),
-        6 => Reply::answered(delete_cap(bytes, links, words, scratch, k)),
+        6 => delete_cap(bytes, links, words, scratch, k),
         7 => rename_obj(bytes, links, words, scratch, k, drawn),
-        8 => Reply::answered(call_purse::withdraw(links, words, me, k, req.sum)),
-        9 => Reply::answered(call_purse::deposit(links, words, me, k, req.sum)),
-        10 => Reply::answered(suspend(bytes, links, k)),
-        11 => Reply::answered(resume(bytes, links, k)),
-        12 => Reply::answered(apply_lock(bytes, links, words, k, lock)),
-        13 => Reply::answered(send(bytes, links, words, text, me, k, req.sum)),
-        14 => replies::receive(bytes, words, buffer, me),
-        15 => Reply::answered(wait(bytes, me)),
-        16 => Reply::answered(revive(bytes, links, words, me, k, req.sum)),
+        8 => withdraw(links, words, me, k, req.sum),
+        9 => deposit(links, words, me, k, req.sum),
+        10 => suspend(bytes, links, k),
+        11 => resume(bytes, links, k),
+        12 => apply_lock(bytes, links, words, k, lock),
+        13 => send(bytes, links, words, text, me, k, req.sum),
+        14 => receive(bytes, words, buffer, me),
+        15 => wait(bytes, me),
+        16 => revive(bytes, links, words, me, k, req.sum),
         _ => Reply::refused(OUT_OF_RANGE),
     }
 }

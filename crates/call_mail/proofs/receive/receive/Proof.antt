@@ -4,6 +4,7 @@ use mathlib.Core.Path.{_∙_}
 use native.Mathlib.Omega.{arith}
 use lib.ListN.{getD, length-set}
 use Rattle.layout.specs.Layout as Layout
+use Rattle.call_steps.proofs.Replying.{fills-refused}
 use Rattle.call_mail.proofs.Receiving.{oldest-short, oldest-fits, receive-met, receive-done}
 use Rattle.call_mail.proofs.Stops.{moved-words-length}
 use borrow.Author.Needs.{needs}
@@ -29,8 +30,13 @@ add-count c = search needs
 slice-read-count : tie.Need-slice-read-count
 slice-read-count c = search needs
 
+refused-requires : tie.Need-refused-requires
+refused-requires c κs = search needs
+
 returns : tie.Need-returns
-returns c = receive-met (c .before .before .before .before .before .pre) (c .if1 .taken)
+returns c l =
+    let t = c .before in
+    fills-refused _ (c .refused .ensures) (receive-met (t .before .before .before .before .before .pre) (t .if1 .taken) l)
 
 mul-i : tie.Need-mul-i
 mul-i c = search needs
@@ -104,12 +110,20 @@ add-bytes c = search needs
 slice-write-bytes : tie.Need-slice-write-bytes
 slice-write-bytes c = search needs
 
+cast-hands-over : tie.Need-cast-hands-over
+cast-hands-over c =
+    let m : tie.After-move-down = c .before .before .before .before in
+    omega (arith, short (m .before .before .before .before .before .before .before .before .before .before .before .before))
+
+hands-over-requires : tie.Need-hands-over-requires
+hands-over-requires c κs = search needs
+
 same-length : tie.Need-same-length
 same-length c = search needs
 
 same-length-2 : tie.Need-same-length-2
 same-length-2 c =
-    let m : tie.After-move-down = c .before .before .before .before in
+    let m : tie.After-move-down = c .before .before .before .before .before in
     let a = entry (m .before .before .before .before .before .before .before .before .before .before .before .before) .args in
     moved-words-length (m .move-down .ensures)
     ∙ length-set (a .words .now) (Layout.CASH + a .me)
@@ -119,11 +133,11 @@ same-length-3 : tie.Need-same-length-3
 same-length-3 c = search needs
 
 returns-2 : tie.Need-returns-2
-returns-2 c =
-    let m : tie.After-move-down = c .before .before .before .before in
+returns-2 c l =
+    let m : tie.After-move-down = c .before .before .before .before .before in
     let copied : tie.After-copy = m .before .before .before .before .before .before .before in
     let e = copied .before .before .before .before .before in
-    receive-done (entry e .pre) (e .if1 .left) (copied .copy .ensures) (m .move-down .ensures)
+    receive-done (entry e .pre) (e .if1 .left) (copied .copy .ensures) (m .move-down .ensures) (c .hands-over .ensures) l
 
 pub receive-spec : {M : Type 1} → statement M
 receive-spec =
@@ -131,6 +145,7 @@ receive-spec =
     (tie.spec
     add-count
     slice-read-count
+    refused-requires
     returns
     mul-i
     add-length
@@ -153,6 +168,8 @@ receive-spec =
     sub-bytes
     add-bytes
     slice-write-bytes
+    cast-hands-over
+    hands-over-requires
     same-length
     same-length-2
     same-length-3

@@ -9,6 +9,7 @@ use borrow.Author.Needs.{needs}
 use Rattle.rules.specs.Refusals.{_when_, first}
 use Rattle.layout.specs.Layout as Layout
 use Rattle.layout.proofs.Shown.{process-is}
+use Rattle.call_steps.proofs.Replying.{refused-is, done-is}
 use Rattle.call_mail.specs.Runs.{messageSlot}
 use Rattle.call_mail.proofs.Stops.{placed-bytes-length, placed-words-length, Sending, slot-of, send-met, send-done}
 use Rattle.call_mail.proofs.send.send.Statement.{statement}
@@ -73,16 +74,21 @@ slice-read-t18 c = search needs
 below-requires : tie.Need-below-requires
 below-requires c κs = search needs
 
+refused-requires : tie.Need-refused-requires
+refused-requires c κs = search needs
+
 same-length : tie.Need-same-length
 same-length c = search needs
 
 returns : tie.Need-returns
 unfolding first _when_
 returns c =
-    let p = c .before .before .before .before in
+    let t = c .before in
+    let p = t .before .before .before .before in
     let a = entry p .args in
-    send-met (sending p) (a .words .now) (a .sum) (a .text .now) 9 (c .before .before .before .if1 .taken)
-    (sym (c .before .below .ensures) ∙ c .if2 .taken) refl refl (omega arith)
+    refused-is (c .refused .ensures)
+    (send-met (sending p) (a .words .now) (a .sum) (a .text .now) 9 (t .before .before .before .if1 .taken)
+    (sym (t .before .below .ensures) ∙ t .if2 .taken) refl refl (omega arith))
 
 add-count : tie.Need-add-count
 add-count c = omega (arith, slot-of (sending (tested c)) .high)
@@ -92,17 +98,22 @@ slice-read-count c =
     let p = tested (c .before) in
     omega (arith, slot-of (sending p) .high, entry p .pre .sized .bytes)
 
+refused-requires-2 : tie.Need-refused-requires-2
+refused-requires-2 c κs = search needs
+
 same-length-2 : tie.Need-same-length-2
 same-length-2 c = search needs
 
 returns-2 : tie.Need-returns-2
 unfolding first _when_
 returns-2 c =
-    let e = c .before .before in
+    let t = c .before in
+    let e = t .before .before in
     let p = tested e in
     let a = entry p .args in
-    send-met (sending p) (a .words .now) (a .sum) (a .text .now) 14 (e .before .before .before .if1 .taken)
-    (sym (e .before .below .ensures) ∙ e .if2 .left) (le-leb 4 _ (c .if3 .taken)) refl (omega arith)
+    refused-is (c .refused2 .ensures)
+    (send-met (sending p) (a .words .now) (a .sum) (a .text .now) 14 (e .before .before .before .if1 .taken)
+    (sym (e .before .below .ensures) ∙ e .if2 .left) (le-leb 4 _ (t .if3 .taken)) refl (omega arith))
 
 add-t16 : tie.Need-add-t16
 add-t16 c = search needs
@@ -165,22 +176,32 @@ slice-write-bytes-2 c =
     simp length-set
     (omega (arith, placed-bytes-length (placed c .place .ensures), slot-of (sending p) .high, entry p .pre .sized .bytes))
 
+done-requires : tie.Need-done-requires
+done-requires c κs = search needs
+
 same-length-3 : tie.Need-same-length-3
-same-length-3 c = simp length-set (placed-bytes-length (placed c .place .ensures))
+same-length-3 c = simp length-set (placed-bytes-length (placed (c .before) .place .ensures))
 
 same-length-4 : tie.Need-same-length-4
 same-length-4 c =
-    let a = entry (tested (passed (roomy c))) .args in
-    placed-words-length (placed c .place .ensures)
-    ∙ length-set (a .words .now) (Layout.CASH + a .me) (placed c .before .before .before .less .result .0)
+    let p = placed (c .before) in
+    let a = entry (tested (passed (roomy (c .before)))) .args in
+    placed-words-length (p .place .ensures)
+    ∙ length-set (a .words .now) (Layout.CASH + a .me) (p .before .before .before .less .result .0)
 
 returns-3 : tie.Need-returns-3
 returns-3 c =
-    let e = passed (roomy c) in
+    let p = placed (c .before) in
+    let r = roomy (c .before) in
+    let e = passed r in
     let a = entry (tested e) .args in
-    send-done (sending (tested e)) (a .words .now) (a .sum) (a .text .now) (placed c .place .ensures)
-    (placed c .before .before .before .less .ensures) (e .before .before .before .if1 .taken)
-    (sym (e .before .below .ensures) ∙ e .if2 .left) (lt-leb 4 _ (roomy c .if3 .left))
+    done-is (c .done .ensures)
+    (send-done (sending (tested e)) (a .words .now) (a .sum) (a .text .now) (p .place .ensures)
+    (p .before .before .before .less .ensures) (e .before .before .before .if1 .taken)
+    (sym (e .before .below .ensures) ∙ e .if2 .left) (lt-leb 4 _ (r .if3 .left)))
+
+refused-requires-3 : tie.Need-refused-requires-3
+refused-requires-3 c κs = search needs
 
 same-length-5 : tie.Need-same-length-5
 same-length-5 c = search needs
@@ -188,8 +209,10 @@ same-length-5 c = search needs
 returns-4 : tie.Need-returns-4
 unfolding first _when_
 returns-4 c =
-    let a = entry (c .before) .args in
-    send-met (sending (c .before)) (a .words .now) (a .sum) (a .text .now) 8 (c .if1 .left) refl refl refl (omega arith)
+    let p = c .before .before in
+    let a = entry p .args in
+    refused-is (c .refused3 .ensures)
+    (send-met (sending p) (a .words .now) (a .sum) (a .text .now) 8 (c .before .if1 .left) refl refl refl (omega arith))
 
 pub send-spec : {M : Type 1} → statement M
 send-spec =
@@ -201,10 +224,12 @@ send-spec =
     mul-t16
     slice-read-t18
     below-requires
+    refused-requires
     same-length
     returns
     add-count
     slice-read-count
+    refused-requires-2
     same-length-2
     returns-2
     add-t16
@@ -223,8 +248,10 @@ send-spec =
     slice-write-bytes
     add-bytes-3
     slice-write-bytes-2
+    done-requires
     same-length-3
     same-length-4
     returns-3
+    refused-requires-3
     same-length-5
     returns-4)

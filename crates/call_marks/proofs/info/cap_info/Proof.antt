@@ -1,13 +1,14 @@
 -- `cap_info` reads the capability's window and moneyword.
 use Prim.Native.Nat.{ℕ, _+_}
-use mathlib.Core.Path.{_≡_}
+use mathlib.Core.Path.{_≡_, refl}
 use native.Mathlib.Omega.{arith}
 use lib.ListN.{getD}
 use borrow.Author.Needs.{needs}
 use Rattle.layout.specs.Layout as Layout
 use Rattle.layout.specs.Rows.{field}
+use Rattle.layout.specs.View.{view}
 use Rattle.layout.proofs.Field.{field-in}
-use Rattle.call_marks.specs.Runs.{infoRun}
+use Rattle.call_marks.specs.Runs.{told, infoRun}
 use Rattle.call_marks.proofs.info.cap_info.Statement.{statement}
 use Rattle.call_marks.proofs.info.cap_info.Tie as tie
 
@@ -34,11 +35,6 @@ mul-end c = search needs
 shared-slice-read-end : tie.Need-shared-slice-read-end
 shared-slice-read-end c = search needs
 
-sub-length : tie.Need-sub-length
-sub-length c =
-    let s = c .before .before in
-    omega (arith, s .pre .ordered, cell s Layout.START, cell s Layout.END)
-
 add-money : tie.Need-add-money
 add-money c = search needs
 
@@ -48,11 +44,26 @@ mul-money c = search needs
 shared-slice-read-money : tie.Need-shared-slice-read-money
 shared-slice-read-money c = search needs
 
+sub-tells : tie.Need-sub-tells
+sub-tells c =
+    let s = c .before .before .before .before in
+    omega (arith, s .pre .ordered, cell s Layout.START, cell s Layout.END)
+
+tells-requires : tie.Need-tells-requires
+tells-requires c κs = search needs
+
 returns : tie.Need-returns
-unfolding infoRun
+unfolding infoRun told
 returns c b l =
-    let s = c .before .before .before in
-    rw (cell s Layout.START, cell s Layout.END, cell s Layout.MONEY)
+    let s = c .before .before .before .before .before in
+    let w = s .args .words .now in
+    record {
+      none = c .tells .ensures .none;
+      answer = rw (cell s Layout.START, cell s Layout.END, cell s Layout.MONEY) (c .tells .ensures .answer (view b l w));
+      bytes = refl;
+      links = refl;
+      words = refl;
+    }
 
 pub cap-info-spec : {M : Type 1} → statement M
 cap-info-spec =
@@ -64,8 +75,9 @@ cap-info-spec =
     add-end
     mul-end
     shared-slice-read-end
-    sub-length
     add-money
     mul-money
     shared-slice-read-money
+    sub-tells
+    tells-requires
     returns)

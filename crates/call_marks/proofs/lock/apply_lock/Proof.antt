@@ -1,6 +1,7 @@
 -- `apply_lock` stores the two XORed words of the target's lockword, or is stopped by 8.
 use native.Mathlib.Omega.{arith}
 use lib.ListN.{length-set}
+use Rattle.call_steps.proofs.Replying.{refused-is, done-is}
 use Rattle.call_marks.proofs.Stops.{Found, lock-met, lock-done}
 use borrow.Author.Needs.{needs}
 use Rattle.call_marks.proofs.lock.apply_lock.Statement.{statement}
@@ -65,20 +66,29 @@ mul-words-2 c = search needs
 slice-write-words-2 : tie.Need-slice-write-words-2
 slice-write-words-2 c = simp length-set (omega arith)
 
+done-requires : tie.Need-done-requires
+done-requires c κs = search needs
+
 same-length : tie.Need-same-length
 same-length c = search needs
 
 returns : tie.Need-returns
 returns c =
-    let p = c .before .before .before .before in
+    let x = c .before in
+    let p = x .before .before .before .before in
     let s = entry p in
-    lock-done (found p) (s .args .words .now) (s .args .lock) (c .before .before .before .if1 .taken) (s .pre .target)
-    (c .xor-words .result) (c .xor-words .ensures)
+    done-is (c .done .ensures)
+    (lock-done (found p) (s .args .words .now) (s .args .lock) (x .before .before .before .if1 .taken) (s .pre .target)
+    (x .xor-words .result) (x .xor-words .ensures))
+
+refused-requires : tie.Need-refused-requires
+refused-requires c κs = search needs
 
 returns-2 : tie.Need-returns-2
 returns-2 c =
-    let s = entry (c .before) in
-    lock-met (found (c .before)) (s .args .words .now) (s .args .lock) (c .if1 .left)
+    let p = c .before .before in
+    let s = entry p in
+    refused-is (c .refused .ensures) (lock-met (found p) (s .args .words .now) (s .args .lock) (c .before .if1 .left))
 
 pub apply-lock-spec : {M : Type 1} → statement M
 apply-lock-spec =
@@ -101,6 +111,8 @@ apply-lock-spec =
     add-words-2
     mul-words-2
     slice-write-words-2
+    done-requires
     same-length
     returns
+    refused-requires
     returns-2)

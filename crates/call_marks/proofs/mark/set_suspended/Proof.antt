@@ -1,5 +1,6 @@
 -- `set_suspended` stores the target's mark, or is stopped by 8.
 use borrow.Author.Needs.{needs}
+use Rattle.call_steps.proofs.Replying.{refused-is, done-is}
 use Rattle.call_marks.proofs.Stops.{Found, suspended-met, suspended-done}
 use Rattle.call_marks.proofs.mark.set_suspended.Statement.{statement}
 use Rattle.call_marks.proofs.mark.set_suspended.Tie as tie
@@ -24,17 +25,27 @@ add-bytes c = search needs
 slice-write-bytes : tie.Need-slice-write-bytes
 slice-write-bytes c = search needs
 
+done-requires : tie.Need-done-requires
+done-requires c κs = search needs
+
 same-length : tie.Need-same-length
 same-length c = search needs
 
 returns : tie.Need-returns
-returns c w = suspended-done (found (c .before)) (c .if1 .taken) w (entry (c .before) .args .mark)
+returns c w =
+    let p = c .before .before in
+    done-is (c .done .ensures) (suspended-done (found p) (c .before .if1 .taken) w (entry p .args .mark))
+
+refused-requires : tie.Need-refused-requires
+refused-requires c κs = search needs
 
 same-length-2 : tie.Need-same-length-2
 same-length-2 c = search needs
 
 returns-2 : tie.Need-returns-2
-returns-2 c w = suspended-met (found (c .before)) (c .if1 .left) w (entry (c .before) .args .mark)
+returns-2 c w =
+    let p = c .before .before in
+    refused-is (c .refused .ensures) (suspended-met (found p) (c .before .if1 .left) w (entry p .args .mark))
 
 pub set-suspended-spec : {M : Type 1} → statement M
 set-suspended-spec =
@@ -44,7 +55,9 @@ set-suspended-spec =
     has-flag-requires
     add-bytes
     slice-write-bytes
+    done-requires
     same-length
     returns
+    refused-requires
     same-length-2
     returns-2)

@@ -4,6 +4,7 @@ use native.Mathlib.Omega.{arith}
 use borrow.Author.Tests.{eq-eqb, ne-eqb}
 use Rattle.rules.specs.Refusals.{_when_, first}
 use Rattle.layout.proofs.Shown.{set-yes, set-no}
+use Rattle.call_steps.proofs.Replying.{refused-is, done-is}
 use Rattle.call_marks.proofs.Stops.{slot-of, Reviving, revive-met, revive-done, room-is}
 use borrow.Author.Needs.{needs}
 use Rattle.call_marks.proofs.revive.revive.Statement.{statement}
@@ -37,21 +38,33 @@ add-if2 c = search needs
 slice-read-if2 : tie.Need-slice-read-if2
 slice-read-if2 c = search needs
 
+refused-requires : tie.Need-refused-requires
+refused-requires c κs = search needs
+
 same-length : tie.Need-same-length
 same-length c = search needs
 
 returns : tie.Need-returns
 unfolding first _when_
-returns c = revive-met (reviving (c .before .before .before)) 16 (c .before .before .if1 .taken)
-    (set-no _ (c .if2 .taken)) refl refl refl (omega arith)
+returns c =
+    let t = c .before in
+    refused-is (c .refused .ensures)
+    (revive-met (reviving (t .before .before .before)) 16 (t .before .before .if1 .taken)
+    (set-no _ (t .if2 .taken)) refl refl refl (omega arith))
+
+refused-requires-2 : tie.Need-refused-requires-2
+refused-requires-2 c κs = search needs
 
 same-length-2 : tie.Need-same-length-2
 same-length-2 c = search needs
 
 returns-2 : tie.Need-returns-2
 unfolding first _when_
-returns-2 c = revive-met (reviving (c .before .before .before .before)) 16 (c .before .before .before .if1 .taken)
-    (set-yes _ (c .before .if2 .left)) (eq-eqb _ 0 (c .if3 .taken)) refl refl (omega arith)
+returns-2 c =
+    let t = c .before in
+    refused-is (c .refused2 .ensures)
+    (revive-met (reviving (t .before .before .before .before)) 16 (t .before .before .before .if1 .taken)
+    (set-yes _ (t .before .if2 .left)) (eq-eqb _ 0 (t .if3 .taken)) refl refl (omega arith))
 
 add-t11 : tie.Need-add-t11
 add-t11 c = search needs
@@ -65,16 +78,21 @@ slice-read-t18 c = search needs
 below-requires : tie.Need-below-requires
 below-requires c κs = search needs
 
+refused-requires-3 : tie.Need-refused-requires-3
+refused-requires-3 c κs = search needs
+
 same-length-3 : tie.Need-same-length-3
 same-length-3 c = search needs
 
 returns-3 : tie.Need-returns-3
 unfolding first _when_
 returns-3 c =
-    let e = passed (c .before) in
-    revive-met (reviving (e .before .before .before .before)) 9 (e .before .before .before .if1 .taken)
-    (set-yes _ (e .before .if2 .left)) (ne-eqb _ 0 (e .if3 .left)) (sym (c .before .below .ensures) ∙ c .if4 .taken)
-    refl (omega arith)
+    let t = c .before in
+    let e = passed (t .before) in
+    refused-is (c .refused3 .ensures)
+    (revive-met (reviving (e .before .before .before .before)) 9 (e .before .before .before .if1 .taken)
+    (set-yes _ (e .before .if2 .left)) (ne-eqb _ 0 (e .if3 .left)) (sym (t .before .below .ensures) ∙ t .if4 .taken)
+    refl (omega arith))
 
 move-cash-requires : tie.Need-move-cash-requires
 move-cash-requires c κs =
@@ -91,6 +109,9 @@ add-bytes c = search needs
 slice-write-bytes : tie.Need-slice-write-bytes
 slice-write-bytes c = search needs
 
+done-requires : tie.Need-done-requires
+done-requires c κs = search needs
+
 same-length-4 : tie.Need-same-length-4
 same-length-4 c = search needs
 
@@ -99,19 +120,24 @@ same-length-5 c = search needs
 
 returns-4 : tie.Need-returns-4
 returns-4 c =
-    let b = c .before .before .before .before .before in
+    let m = c .before .before .before in
+    let b = m .before .before .before in
     let e = passed b in
-    rw (c .before .before .move-cash .ensures)
+    done-is (c .done .ensures) (rw (m .move-cash .ensures)
     (revive-done (reviving (e .before .before .before .before)) (e .before .before .before .if1 .taken)
     (set-yes _ (e .before .if2 .left)) (ne-eqb _ 0 (e .if3 .left))
-    (sym (b .below .ensures) ∙ c .before .before .before .before .if4 .left))
+    (sym (b .below .ensures) ∙ m .before .before .if4 .left)))
+
+refused-requires-4 : tie.Need-refused-requires-4
+refused-requires-4 c κs = search needs
 
 same-length-6 : tie.Need-same-length-6
 same-length-6 c = search needs
 
 returns-5 : tie.Need-returns-5
 unfolding first _when_
-returns-5 c = revive-met (reviving (c .before)) 8 (c .if1 .left) refl refl refl refl (omega arith)
+returns-5 c = refused-is (c .refused4 .ensures)
+    (revive-met (reviving (c .before .before)) 8 (c .before .if1 .left) refl refl refl refl (omega arith))
 
 pub revive-spec : {M : Type 1} → statement M
 revive-spec =
@@ -121,21 +147,26 @@ revive-spec =
     has-flag-requires
     add-if2
     slice-read-if2
+    refused-requires
     same-length
     returns
+    refused-requires-2
     same-length-2
     returns-2
     add-t11
     mul-t16
     slice-read-t18
     below-requires
+    refused-requires-3
     same-length-3
     returns-3
     move-cash-requires
     add-bytes
     slice-write-bytes
+    done-requires
     same-length-4
     same-length-5
     returns-4
+    refused-requires-4
     same-length-6
     returns-5)

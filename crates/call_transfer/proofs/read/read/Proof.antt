@@ -4,6 +4,7 @@ use mathlib.Core.Path.{_≡_, sym, _∙_}
 use mathlib.Core.Bool.{true}
 use native.Mathlib.Omega.{arith}
 use Rattle.rules.specs.Calls.{liesIn}
+use Rattle.call_steps.proofs.Replying.{fills-refused}
 use Rattle.call_transfer.specs.Runs.{range, window}
 use Rattle.call_transfer.proofs.Stops.{copy-asks}
 use Rattle.call_transfer.proofs.Reading.{reads-met, reads-done}
@@ -40,17 +41,30 @@ copy-out-requires c κs =
       omega (arith, p .ordered, p .short, p .room),
     )
 
+sub-hands-over : tie.Need-sub-hands-over
+sub-hands-over c = search needs
+
+hands-over-requires : tie.Need-hands-over-requires
+hands-over-requires c κs = search needs
+
 same-length : tie.Need-same-length
 same-length c = search needs
 
 returns : tie.Need-returns
 returns c =
-    let s = entry (c .before .before .before .before .before .before) in
-    reads-done (s .pre) _ (c .before .before .before .before .first-block .ensures)
-    (lies (c .before .before .before .before .before)) _ (c .before .before .copy-out .ensures)
+    let q = c .before .before .before in
+    let t = q .before .before .before in
+    reads-done (entry (t .before) .pre) _ (q .before .before .first-block .ensures) (lies t) _ (q .copy-out .ensures)
+    (c .hands-over .ensures)
+
+refused-requires : tie.Need-refused-requires
+refused-requires c κs = search needs
 
 returns-2 : tie.Need-returns-2
-returns-2 c = reads-met (sym (c .before .in-window .ensures) ∙ c .if1 .left)
+returns-2 c =
+    let e = c .before in
+    fills-refused _ (c .refused .ensures)
+    (reads-met (entry (e .before) .pre) (sym (e .before .in-window .ensures) ∙ e .if1 .left))
 
 pub read-spec : {M : Type 1} → statement M
 read-spec =
@@ -61,6 +75,9 @@ read-spec =
     sub-copy-out
     cast-copy-out
     copy-out-requires
+    sub-hands-over
+    hands-over-requires
     same-length
     returns
+    refused-requires
     returns-2)

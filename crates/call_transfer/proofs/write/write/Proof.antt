@@ -4,6 +4,7 @@ use mathlib.Core.Path.{_≡_, sym, _∙_}
 use mathlib.Core.Bool.{true}
 use native.Mathlib.Omega.{arith}
 use Rattle.rules.specs.Calls.{liesIn}
+use Rattle.call_steps.proofs.Replying.{refused-is, done-is}
 use Rattle.call_transfer.specs.Runs.{range, window}
 use Rattle.call_transfer.proofs.Stops.{copy-asks}
 use Rattle.call_transfer.proofs.Writing.{writes-met, writes-done}
@@ -32,17 +33,27 @@ copy-in-requires c κs =
     copy-asks _ (s .args .start) (s .args .end) _ (p .sized) (p .target) (c .before .first-block .ensures)
     (lies (c .before .before)) (omega (arith, p .ordered, p .long))
 
+done-requires : tie.Need-done-requires
+done-requires c κs = search needs
+
 same-length : tie.Need-same-length
 same-length c = search needs
 
 returns : tie.Need-returns
 returns c =
-    writes-done (entry (c .before .before .before .before .before .before) .pre) _
-    (c .before .before .before .before .first-block .ensures)
-    (lies (c .before .before .before .before .before)) _ (c .before .before .copy-in .ensures)
+    let q = c .before .before .before in
+    let t = q .before .before .before in
+    done-is (c .done .ensures)
+    (writes-done (entry (t .before) .pre) _ (q .before .before .first-block .ensures) (lies t) _ (q .copy-in .ensures))
+
+refused-requires : tie.Need-refused-requires
+refused-requires c κs = search needs
 
 returns-2 : tie.Need-returns-2
-returns-2 c = writes-met (entry (c .before) .pre) (sym (c .before .in-window .ensures) ∙ c .if1 .left)
+returns-2 c =
+    let e = c .before in
+    refused-is (c .refused .ensures)
+    (writes-met (entry (e .before) .pre) (sym (e .before .in-window .ensures) ∙ e .if1 .left))
 
 pub write-spec : {M : Type 1} → statement M
 write-spec =
@@ -51,6 +62,8 @@ write-spec =
     in-window-requires
     first-block-requires
     copy-in-requires
+    done-requires
     same-length
     returns
+    refused-requires
     returns-2)

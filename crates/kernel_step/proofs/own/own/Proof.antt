@@ -1,17 +1,15 @@
 -- `own` is the run of the call that the number chooses, arm by arm.
 use mathlib.Core.Path.{refl, ap}
 use borrow.Author.Needs.{needs}
-use Rattle.rules.specs.Rights.{op}
+use Rattle.rules.specs.Rights.{op, asked}
 use Rattle.call_steps.specs.Request.{callOf}
-use Rattle.call_marks.specs.Runs.{told, infoRun}
 use Rattle.kernel_step.specs.Slices.{Slices, slices}
 use Rattle.kernel_step.specs.Own.{ownRun}
 use Rattle.kernel_step.specs.Ends.{clears}
 use Rattle.kernel_step.proofs.Asked.{no-other, make-asked, read-asked, write-asked, info-asked, derive-asked}
 use Rattle.kernel_step.proofs.Asked.{delete-asked, rename-asked, withdraw-asked, deposit-asked, suspend-asked}
 use Rattle.kernel_step.proofs.Asked.{resume-asked, lock-asked, send-asked, receive-asked, revive-asked}
-use Rattle.kernel_step.proofs.Replying.{arm-code, arm-done, arm-more, arm-reply, arm-cleared, deleted-code}
-use Rattle.kernel_step.proofs.Replying.{read-store}
+use Rattle.kernel_step.proofs.Replying.{arm-fills, arm-reply, arm-cleared}
 use Rattle.kernel_step.proofs.own.own.Statement.{statement}
 use Rattle.kernel_step.proofs.own.own.Tie as tie
 
@@ -44,9 +42,6 @@ write-requires c κs =
     let a = start (m .before) in
     write-asked (a .pre) (ap op (m .match .keys3))
 
-answered-requires : tie.Need-answered-requires
-answered-requires c κs = search needs
-
 cap-info-requires : tie.Need-cap-info-requires
 unfolding op callOf
 cap-info-requires c κs =
@@ -68,9 +63,6 @@ delete-cap-requires c κs =
     let a = start (m .before) in
     delete-asked (a .pre) (ap op (m .match .keys6))
 
-answered-requires-2 : tie.Need-answered-requires-2
-answered-requires-2 c κs = search needs
-
 rename-obj-requires : tie.Need-rename-obj-requires
 unfolding op callOf
 rename-obj-requires c κs =
@@ -85,18 +77,12 @@ withdraw-requires c κs =
     let a = start (m .before) in
     withdraw-asked (a .pre) (ap op (m .match .keys8))
 
-answered-requires-3 : tie.Need-answered-requires-3
-answered-requires-3 c κs = search needs
-
 deposit-requires : tie.Need-deposit-requires
 unfolding op callOf
 deposit-requires c κs =
     let m = c .before .before in
     let a = start (m .before) in
     deposit-asked (a .pre) (ap op (m .match .keys9))
-
-answered-requires-4 : tie.Need-answered-requires-4
-answered-requires-4 c κs = search needs
 
 suspend-requires : tie.Need-suspend-requires
 unfolding op callOf
@@ -105,18 +91,12 @@ suspend-requires c κs =
     let a = start (m .before) in
     suspend-asked (a .pre) (ap op (m .match .keys10))
 
-answered-requires-5 : tie.Need-answered-requires-5
-answered-requires-5 c κs = search needs
-
 resume-requires : tie.Need-resume-requires
 unfolding op callOf
 resume-requires c κs =
     let m = c .before .before in
     let a = start (m .before) in
     resume-asked (a .pre) (ap op (m .match .keys11))
-
-answered-requires-6 : tie.Need-answered-requires-6
-answered-requires-6 c κs = search needs
 
 apply-lock-requires : tie.Need-apply-lock-requires
 unfolding op callOf
@@ -125,18 +105,12 @@ apply-lock-requires c κs =
     let a = start (m .before) in
     lock-asked (a .pre) (ap op (m .match .keys12))
 
-answered-requires-7 : tie.Need-answered-requires-7
-answered-requires-7 c κs = search needs
-
 send-requires : tie.Need-send-requires
 unfolding op callOf
 send-requires c κs =
     let m = c .before .before .before in
     let a = start (m .before) in
     send-asked (a .pre) (ap op (m .match .keys13))
-
-answered-requires-8 : tie.Need-answered-requires-8
-answered-requires-8 c κs = search needs
 
 receive-requires : tie.Need-receive-requires
 unfolding op callOf
@@ -148,18 +122,12 @@ receive-requires c κs =
 wait-requires : tie.Need-wait-requires
 wait-requires c κs = search needs
 
-answered-requires-9 : tie.Need-answered-requires-9
-answered-requires-9 c κs = search needs
-
 revive-requires : tie.Need-revive-requires
 unfolding op callOf
 revive-requires c κs =
     let m = c .before .before .before in
     let a = start (m .before) in
     revive-asked (a .pre) (ap op (m .match .keys16))
-
-answered-requires-10 : tie.Need-answered-requires-10
-answered-requires-10 c κs = search needs
 
 refused-requires : tie.Need-refused-requires
 refused-requires c κs = search needs
@@ -174,12 +142,13 @@ same-length-3 : tie.Need-same-length-3
 same-length-3 c = search needs
 
 returns : tie.Need-returns
-unfolding op callOf ownRun clears
+unfolding op callOf ownRun clears asked
 returns c =
-    let m = c .before .before .before .before .before .before .before .before .before .before in
+    let q = c .before .before .before .before .before .before in
+    let m = q .before .before .before .before in
     let a = start (m .before) in
     arm-reply ownRun (a .args .req) (a .args .text .now) (a .args .me) (a .args .k) (was a) 1 (m .match .keys1) refl
-    (c .before .before .before .before .before .before .make-obj .ensures) refl refl
+    (q .make-obj .ensures) refl refl
 
 same-length-4 : tie.Need-same-length-4
 same-length-4 c = search needs
@@ -194,14 +163,13 @@ same-length-7 : tie.Need-same-length-7
 same-length-7 c = search needs
 
 returns-2 : tie.Need-returns-2
-unfolding op callOf ownRun clears
+unfolding op callOf ownRun clears asked
 returns-2 c =
-    let m = c .before .before .before .before .before .before .before in
+    let q = c .before .before in
+    let m = q .before .before .before .before .before in
     let a = start (m .before) in
-    let S = read-store (a .args .bytes .now) (a .args .links .now) (a .args .words .now) (a .args .buffer .now)
-    (a .args .k) (a .args .req .range .start) (a .args .req .range .end) in
-    arm-more ownRun (a .args .req) (a .args .text .now) (a .args .me) (a .args .k) (was a) 2 (m .match .keys2) refl
-    (c .before .before .read .ensures) (record { bytes = S .bytes; links = S .links; words = S .words }) refl
+    arm-fills ownRun (a .args .req) (a .args .text .now) (a .args .me) (a .args .k) (was a) 2 (m .match .keys2) refl
+    (q .read .ensures) refl
 
 same-length-8 : tie.Need-same-length-8
 same-length-8 c = search needs
@@ -213,24 +181,25 @@ same-length-10 : tie.Need-same-length-10
 same-length-10 c = search needs
 
 returns-3 : tie.Need-returns-3
-unfolding op callOf ownRun clears
+unfolding op callOf ownRun clears asked
 returns-3 c =
-    let m = c .before .before .before .before .before .before .before in
+    let q = c .before .before in
+    let m = q .before .before .before .before in
     let a = start (m .before) in
-    arm-code ownRun (a .args .req) (a .args .text .now) (a .args .me) (a .args .k) (was a) 3 (m .match .keys3) refl
-    (c .answered .ensures) (c .before .before .before .write .ensures) refl refl
+    arm-reply ownRun (a .args .req) (a .args .text .now) (a .args .me) (a .args .k) (was a) 3 (m .match .keys3) refl
+    (q .write .ensures) refl refl
 
 same-length-11 : tie.Need-same-length-11
 same-length-11 c = search needs
 
 returns-4 : tie.Need-returns-4
-unfolding op callOf ownRun clears infoRun told
+unfolding op callOf ownRun clears asked
 returns-4 c =
-    let m = c .before .before in
+    let q = c in
+    let m = q .before .before in
     let a = start (m .before) in
-    arm-more ownRun (a .args .req) (a .args .text .now) (a .args .me) (a .args .k) (was a) 4 (m .match .keys4) refl
-    (c .cap-info .ensures (a .args .bytes .now) (a .args .links .now) (a .args .buffer .now))
-    (record { bytes = refl; links = refl; words = refl }) refl
+    arm-reply ownRun (a .args .req) (a .args .text .now) (a .args .me) (a .args .k) (was a) 4 (m .match .keys4) refl
+    (q .cap-info .ensures (a .args .bytes .now) (a .args .links .now)) refl refl
 
 same-length-12 : tie.Need-same-length-12
 same-length-12 c = search needs
@@ -242,12 +211,13 @@ same-length-14 : tie.Need-same-length-14
 same-length-14 c = search needs
 
 returns-5 : tie.Need-returns-5
-unfolding op callOf ownRun clears
+unfolding op callOf ownRun clears asked
 returns-5 c =
-    let m = c .before .before .before .before .before .before .before .before in
+    let q = c .before .before .before .before in
+    let m = q .before .before .before .before in
     let a = start (m .before) in
     arm-reply ownRun (a .args .req) (a .args .text .now) (a .args .me) (a .args .k) (was a) 5 (m .match .keys5) refl
-    (c .before .before .before .before .derive-cap .ensures) refl refl
+    (q .derive-cap .ensures) refl refl
 
 same-length-15 : tie.Need-same-length-15
 same-length-15 c = search needs
@@ -262,14 +232,13 @@ same-length-18 : tie.Need-same-length-18
 same-length-18 c = search needs
 
 returns-6 : tie.Need-returns-6
-unfolding op callOf ownRun clears
+unfolding op callOf ownRun clears asked
 returns-6 c =
-    let m = c .before .before .before .before .before .before .before .before .before .before .before .before in
+    let q = c .before .before .before .before .before .before in
+    let m = q .before .before .before .before .before in
     let a = start (m .before) in
-    let q = c .before .before .before .before .before .before .before .delete-cap .ensures in
-    let z = deleted-code (a .args .bytes .now) (a .args .links .now) (a .args .words .now) (a .args .k) _ _ _ (q .run) in
-    arm-done ownRun (a .args .req) (a .args .text .now) (a .args .me) (a .args .k) (was a) 6 (m .match .keys6) refl
-    z (c .answered2 .ensures) (q .run) refl (q .zeros)
+    arm-cleared ownRun (a .args .req) (a .args .text .now) (a .args .me) (a .args .k) (was a) 6 (m .match .keys6) refl
+    (q .delete-cap .ensures .replies) refl (q .delete-cap .ensures .scratch-left)
 
 same-length-19 : tie.Need-same-length-19
 same-length-19 c = search needs
@@ -284,13 +253,13 @@ same-length-22 : tie.Need-same-length-22
 same-length-22 c = search needs
 
 returns-7 : tie.Need-returns-7
-unfolding op callOf ownRun clears
+unfolding op callOf ownRun clears asked
 returns-7 c =
-    let m = c .before .before .before .before .before .before .before .before .before .before .before in
+    let q = c .before .before .before .before .before .before in
+    let m = q .before .before .before .before .before in
     let a = start (m .before) in
-    let q = c .before .before .before .before .before .before .rename-obj .ensures in
     arm-cleared ownRun (a .args .req) (a .args .text .now) (a .args .me) (a .args .k) (was a) 7 (m .match .keys7) refl
-    (q .replies) refl (q .scratch-left)
+    (q .rename-obj .ensures .replies) refl (q .rename-obj .ensures .scratch-left)
 
 same-length-23 : tie.Need-same-length-23
 same-length-23 c = search needs
@@ -299,12 +268,13 @@ same-length-24 : tie.Need-same-length-24
 same-length-24 c = search needs
 
 returns-8 : tie.Need-returns-8
-unfolding op callOf ownRun clears
+unfolding op callOf ownRun clears asked
 returns-8 c =
-    let m = c .before .before .before .before .before .before in
+    let q = c .before .before in
+    let m = q .before .before .before in
     let a = start (m .before) in
-    arm-code ownRun (a .args .req) (a .args .text .now) (a .args .me) (a .args .k) (was a) 8 (m .match .keys8) refl
-    (c .answered3 .ensures) (c .before .before .before .withdraw .ensures (a .args .bytes .now)) refl refl
+    arm-reply ownRun (a .args .req) (a .args .text .now) (a .args .me) (a .args .k) (was a) 8 (m .match .keys8) refl
+    (q .withdraw .ensures (a .args .bytes .now)) refl refl
 
 same-length-25 : tie.Need-same-length-25
 same-length-25 c = search needs
@@ -313,12 +283,13 @@ same-length-26 : tie.Need-same-length-26
 same-length-26 c = search needs
 
 returns-9 : tie.Need-returns-9
-unfolding op callOf ownRun clears
+unfolding op callOf ownRun clears asked
 returns-9 c =
-    let m = c .before .before .before .before .before .before in
+    let q = c .before .before in
+    let m = q .before .before .before in
     let a = start (m .before) in
-    arm-code ownRun (a .args .req) (a .args .text .now) (a .args .me) (a .args .k) (was a) 9 (m .match .keys9) refl
-    (c .answered4 .ensures) (c .before .before .before .deposit .ensures (a .args .bytes .now)) refl refl
+    arm-reply ownRun (a .args .req) (a .args .text .now) (a .args .me) (a .args .k) (was a) 9 (m .match .keys9) refl
+    (q .deposit .ensures (a .args .bytes .now)) refl refl
 
 same-length-27 : tie.Need-same-length-27
 same-length-27 c = search needs
@@ -327,12 +298,13 @@ same-length-28 : tie.Need-same-length-28
 same-length-28 c = search needs
 
 returns-10 : tie.Need-returns-10
-unfolding op callOf ownRun clears
+unfolding op callOf ownRun clears asked
 returns-10 c =
-    let m = c .before .before .before .before .before .before in
+    let q = c .before .before in
+    let m = q .before .before .before in
     let a = start (m .before) in
-    arm-code ownRun (a .args .req) (a .args .text .now) (a .args .me) (a .args .k) (was a) 10 (m .match .keys10) refl
-    (c .answered5 .ensures) (c .before .before .before .suspend .ensures (a .args .words .now)) refl refl
+    arm-reply ownRun (a .args .req) (a .args .text .now) (a .args .me) (a .args .k) (was a) 10 (m .match .keys10) refl
+    (q .suspend .ensures (a .args .words .now)) refl refl
 
 same-length-29 : tie.Need-same-length-29
 same-length-29 c = search needs
@@ -341,12 +313,13 @@ same-length-30 : tie.Need-same-length-30
 same-length-30 c = search needs
 
 returns-11 : tie.Need-returns-11
-unfolding op callOf ownRun clears
+unfolding op callOf ownRun clears asked
 returns-11 c =
-    let m = c .before .before .before .before .before .before in
+    let q = c .before .before in
+    let m = q .before .before .before in
     let a = start (m .before) in
-    arm-code ownRun (a .args .req) (a .args .text .now) (a .args .me) (a .args .k) (was a) 11 (m .match .keys11) refl
-    (c .answered6 .ensures) (c .before .before .before .resume .ensures (a .args .words .now)) refl refl
+    arm-reply ownRun (a .args .req) (a .args .text .now) (a .args .me) (a .args .k) (was a) 11 (m .match .keys11) refl
+    (q .resume .ensures (a .args .words .now)) refl refl
 
 same-length-31 : tie.Need-same-length-31
 same-length-31 c = search needs
@@ -358,12 +331,13 @@ same-length-33 : tie.Need-same-length-33
 same-length-33 c = search needs
 
 returns-12 : tie.Need-returns-12
-unfolding op callOf ownRun clears
+unfolding op callOf ownRun clears asked
 returns-12 c =
-    let m = c .before .before .before .before .before .before .before in
+    let q = c .before .before in
+    let m = q .before .before .before .before in
     let a = start (m .before) in
-    arm-code ownRun (a .args .req) (a .args .text .now) (a .args .me) (a .args .k) (was a) 12 (m .match .keys12) refl
-    (c .answered7 .ensures) (c .before .before .before .apply-lock .ensures) refl refl
+    arm-reply ownRun (a .args .req) (a .args .text .now) (a .args .me) (a .args .k) (was a) 12 (m .match .keys12) refl
+    (q .apply-lock .ensures) refl refl
 
 same-length-34 : tie.Need-same-length-34
 same-length-34 c = search needs
@@ -375,12 +349,13 @@ same-length-36 : tie.Need-same-length-36
 same-length-36 c = search needs
 
 returns-13 : tie.Need-returns-13
-unfolding op callOf ownRun clears
+unfolding op callOf ownRun clears asked
 returns-13 c =
-    let m = c .before .before .before .before .before .before .before .before .before in
+    let q = c .before .before .before .before in
+    let m = q .before .before .before .before in
     let a = start (m .before) in
-    arm-code ownRun (a .args .req) (a .args .text .now) (a .args .me) (a .args .k) (was a) 13 (m .match .keys13) refl
-    (c .answered8 .ensures) (c .before .before .before .before .before .send .ensures) refl refl
+    arm-reply ownRun (a .args .req) (a .args .text .now) (a .args .me) (a .args .k) (was a) 13 (m .match .keys13) refl
+    (q .send .ensures) refl refl
 
 same-length-37 : tie.Need-same-length-37
 same-length-37 c = search needs
@@ -392,24 +367,25 @@ same-length-39 : tie.Need-same-length-39
 same-length-39 c = search needs
 
 returns-14 : tie.Need-returns-14
-unfolding op callOf ownRun clears
+unfolding op callOf ownRun clears asked
 returns-14 c =
-    let m = c .before .before .before .before .before .before .before .before .before .before in
+    let q = c .before .before .before .before .before .before in
+    let m = q .before .before .before .before in
     let a = start (m .before) in
-    let q = c .before .before .before .before .before .before .receive .ensures (a .args .links .now) in
-    arm-more ownRun (a .args .req) (a .args .text .now) (a .args .me) (a .args .k) (was a) 14 (m .match .keys14) refl
-    (q .replies) (record { bytes = q .bytes; links = q .links; words = q .words }) refl
+    arm-fills ownRun (a .args .req) (a .args .text .now) (a .args .me) (a .args .k) (was a) 14 (m .match .keys14) refl
+    (q .receive .ensures (a .args .links .now)) refl
 
 same-length-40 : tie.Need-same-length-40
 same-length-40 c = search needs
 
 returns-15 : tie.Need-returns-15
-unfolding op callOf ownRun clears
+unfolding op callOf ownRun clears asked
 returns-15 c =
-    let m = c .before .before .before .before .before in
+    let q = c .before .before in
+    let m = q .before .before in
     let a = start (m .before) in
-    arm-code ownRun (a .args .req) (a .args .text .now) (a .args .me) (a .args .k) (was a) 15 (m .match .keys15) refl
-    (c .answered9 .ensures) (c .before .before .before .wait .ensures (a .args .links .now) (a .args .words .now)) refl refl
+    arm-reply ownRun (a .args .req) (a .args .text .now) (a .args .me) (a .args .k) (was a) 15 (m .match .keys15) refl
+    (q .wait .ensures (a .args .links .now) (a .args .words .now)) refl refl
 
 same-length-41 : tie.Need-same-length-41
 same-length-41 c = search needs
@@ -421,12 +397,13 @@ same-length-43 : tie.Need-same-length-43
 same-length-43 c = search needs
 
 returns-16 : tie.Need-returns-16
-unfolding op callOf ownRun clears
+unfolding op callOf ownRun clears asked
 returns-16 c =
-    let m = c .before .before .before .before .before .before .before .before .before in
+    let q = c .before .before .before .before in
+    let m = q .before .before .before .before in
     let a = start (m .before) in
-    arm-code ownRun (a .args .req) (a .args .text .now) (a .args .me) (a .args .k) (was a) 16 (m .match .keys16) refl
-    (c .answered10 .ensures) (c .before .before .before .before .before .revive .ensures) refl refl
+    arm-reply ownRun (a .args .req) (a .args .text .now) (a .args .me) (a .args .k) (was a) 16 (m .match .keys16) refl
+    (q .revive .ensures) refl refl
 
 returns-17 : tie.Need-returns-17
 unfolding callOf
@@ -439,29 +416,19 @@ own-spec =
     make-obj-requires
     read-requires
     write-requires
-    answered-requires
     cap-info-requires
     derive-cap-requires
     delete-cap-requires
-    answered-requires-2
     rename-obj-requires
     withdraw-requires
-    answered-requires-3
     deposit-requires
-    answered-requires-4
     suspend-requires
-    answered-requires-5
     resume-requires
-    answered-requires-6
     apply-lock-requires
-    answered-requires-7
     send-requires
-    answered-requires-8
     receive-requires
     wait-requires
-    answered-requires-9
     revive-requires
-    answered-requires-10
     refused-requires
     same-length
     same-length-2
