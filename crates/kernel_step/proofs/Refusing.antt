@@ -88,7 +88,7 @@ unfolding code isDone
 late-code s c h z = rule-by s c h (λ r. r .answer .code ≢ 0 → 4 < r .answer .code)
     (λ nz. absurd (nz z))
     (λ _ nz _. late-high (paid s c) c (slotOf s c) nz)
-    (λ _ _ nz. absurd (nz (eqb-true _ 0 (is-done s c h))))
+    (λ e _ nz. absurd (nz (eqb-true _ 0 (is-done s c h e))))
 
 -- an own part that leaves the slices where it refuses
 abbrev pub OwnLeaves : OwnPart → Type 0

@@ -2,7 +2,7 @@
 use Prim.Native.Nat.{ℕ}
 use mathlib.Core.Path.{_≡_, refl, sym, ap, _∙_}
 use mathlib.Core.Logic.{_≢_}
-use mathlib.Core.Bool.{true, false, true≢false}
+use mathlib.Core.Bool.{true, false, true≢false, false≢true}
 use mathlib.Core.List.{List, [], _∷_}
 use native.Mathlib.Omega.{arith}
 use lib.Dec.{eqb}
@@ -11,7 +11,7 @@ use Rattle.rules.specs.Store.{Message, State}
 use Rattle.rules.specs.Rights.{Op, makeObj, read, write, capInfo, deriveCap, deleteCap, renameObj, withdraw}
 use Rattle.rules.specs.Rights.{deposit, suspend, resume, applyLock, send, receive, wait, revive, unknown, op}
 use Rattle.rules.specs.Call.{Call, Answer, Outcome, Choice, code, done, handsBack, handsOver, tells}
-use Rattle.rules.specs.Refusals.{caller, early}
+use Rattle.rules.specs.Refusals.{argumentsFit, caller, early}
 use Rattle.rules.specs.Changes.{setTerminated}
 use Rattle.rules.specs.Calls.{makeObjDoes, readDoes, writeDoes, capInfoDoes, deriveCapDoes, renameObjDoes}
 use Rattle.rules.specs.Calls.{withdrawDoes, depositDoes, suspendDoes, resumeDoes, applyLockDoes, sendDoes}
@@ -19,7 +19,7 @@ use Rattle.rules.specs.Calls.{receiveDoes, waitDoes, reviveDoes, does}
 use Rattle.rules.specs.Rule.{stopped, paid, late, rule, isDone}
 use Rattle.rules.specs.Theorems.{Refused}
 use Rattle.rules.proofs.Tests.{by-eq, pick-yes, pick-not}
-use Rattle.rules.proofs.Ready.{early-low, late-high, slotOf}
+use Rattle.rules.proofs.Ready.{early-low, late-high, slotOf, early-fits}
 use Rattle.rules.proofs.Outcomes.{done-out, rule-early, rule-late, rule-done, rule-by}
 use Rattle.rules.proofs.Deleting.{delete-by}
 
@@ -27,30 +27,30 @@ use Rattle.rules.proofs.Deleting.{delete-by}
 
 module _ (s : State) (c : Call) (me k : ℕ) where
   -- it is 0
-  does-done : (h : Choice) (o : Op) → does s c me k h o .answer .code ≡ 0
-  unfolding does makeObjDoes readDoes writeDoes capInfoDoes deriveCapDoes renameObjDoes withdrawDoes depositDoes
+  does-done : (h : Choice) (o : Op) → argumentsFit o c ≡ true → does s c me k h o .answer .code ≡ 0
+  unfolding argumentsFit does makeObjDoes readDoes writeDoes capInfoDoes deriveCapDoes renameObjDoes withdrawDoes depositDoes
       suspendDoes resumeDoes applyLockDoes sendDoes receiveDoes waitDoes reviveDoes done code handsBack handsOver tells
-  does-done h makeObj = refl
-  does-done h read = refl
-  does-done h write = refl
-  does-done h capInfo = refl
-  does-done h deriveCap = refl
-  does-done h deleteCap = delete-by s c me k (λ r. r .answer .code ≡ 0) (λ z. refl) (λ n. refl)
-  does-done h renameObj = refl
-  does-done h withdraw = refl
-  does-done h deposit = refl
-  does-done h suspend = refl
-  does-done h resume = refl
-  does-done h applyLock = refl
-  does-done h send = refl
-  does-done h receive = received-done (s .box me)
+  does-done h makeObj e = refl
+  does-done h read e = refl
+  does-done h write e = refl
+  does-done h capInfo e = refl
+  does-done h deriveCap e = refl
+  does-done h deleteCap e = delete-by s c me k (λ r. r .answer .code ≡ 0) (λ z. refl) (λ n. refl)
+  does-done h renameObj e = refl
+  does-done h withdraw e = refl
+  does-done h deposit e = refl
+  does-done h suspend e = refl
+  does-done h resume e = refl
+  does-done h applyLock e = refl
+  does-done h send e = refl
+  does-done h receive e = received-done (s .box me)
     where
       received-done : (l : List Message) → receiveDoes s c me k l .answer .code ≡ 0
       received-done [] = refl
       received-done (m ∷ l) = refl
-  does-done h wait = refl
-  does-done h revive = refl
-  does-done h unknown = refl
+  does-done h wait e = refl
+  does-done h revive e = refl
+  does-done h unknown e = absurd (false≢true e)
 
   -- and does not depend on what is taken
   does-fixed : (h g : Choice) (o : Op) → does s c me k h o .answer ≡ does s c me k g o .answer
@@ -79,9 +79,9 @@ pub refused-not : (n : ℕ) (r : State) → n ≢ 0 → isDone (record { answer 
 unfolding isDone code
 refused-not n r d = ne-eqb n 0 d
 
-pub is-done : (s : State) (c : Call) (h : Choice) → isDone (done-out s c h) ≡ true
+pub is-done : (s : State) (c : Call) (h : Choice) → early s c ≡ 0 → isDone (done-out s c h) ≡ true
 unfolding isDone
-is-done s c h = eq-eqb _ _ (does-done (paid s c) c (caller s c) (slotOf s c) h (op (c .number)))
+is-done s c h e = eq-eqb _ _ (does-done (paid s c) c (caller s c) (slotOf s c) h (op (c .number)) (early-fits s c e))
 
 -- where a call is done it meets no refusal
 pub done-by : (s : State) (c : Call) (h : Choice) (P : Outcome → Type 0)
@@ -112,7 +112,7 @@ refused-rule s c h = rule-by s c h (λ r. isDone r ≡ false → Refused s c r)
       marks = λ b. absurd (omega (arith, late-high (paid s c) c (slotOf s c) n));
       fee = λ b. refl;
     })
-    (λ e f q. absurd (true≢false (sym (is-done s c h) ∙ q)))
+    (λ e f q. absurd (true≢false (sym (is-done s c h e) ∙ q)))
 
 pub answer-same : (s : State) (c : Call) (h g : Choice) → rule s c h .answer ≡ rule s c g .answer
 answer-same s c h g =

@@ -124,7 +124,7 @@ module _ {m : Maps} (s t : State) (S : Formed s) (T : Formed t) (A : CarriedBy m
       let a = rule-done s c h e f in
       let b = rule-done t c g e′ (late-is e ∙ f) in
       as-alike a b (done-alike e f h g
-      (P .choice (ap isDone a ∙ is-done s c h)) (Q .choice (ap isDone b ∙ is-done t c g))))
+      (P .choice (ap isDone a ∙ is-done s c h e)) (Q .choice (ap isDone b ∙ is-done t c g e′))))
       (λ n. as-alike (rule-late s c h e n) (rule-late t c g e′ (λ z. n (sym (late-is e) ∙ z))) (late-alike e)))
       (λ n. as-alike (rule-early s c h n) (rule-early t c g (λ z. n (sym early-is ∙ z))) early-alike)
 

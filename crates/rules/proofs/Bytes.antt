@@ -183,5 +183,5 @@ module _ (s : State) (c : Call) (q : ℕ) where
       (sym (refused-not (early s c) (stopped s c (early s c)) n)) stopped-bytes)
       (λ e n g. subst (λ d. Bytes s q (bytesLeft d) (paid s c))
       (sym (refused-not (late (paid s c) c (slotOf s c)) (paid s c) n)) paid-bytes)
-      (λ e f g. subst (λ d. Bytes s q (bytesLeft d) (done-out s c h .after)) (sym (is-done s c h))
-      (done-bytes h (g (is-done s c h))))
+      (λ e f g. subst (λ d. Bytes s q (bytesLeft d) (done-out s c h .after)) (sym (is-done s c h e))
+      (done-bytes h (g (is-done s c h e))))

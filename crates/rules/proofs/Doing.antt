@@ -387,4 +387,4 @@ module _ {m : Maps} (s t : State) (S : Formed s) (T : Formed t) (A : CarriedBy m
   does-carried h g receive r p q = receive-alike
   does-carried h g wait r p q = wait-alike
   does-carried h g revive r p q = revive-alike (r .shown refl .lives)
-  does-carried h g unknown r p q = done-alike A
+  does-carried h g unknown r p q = record { answer = refl; after = record { maps = m; by = A } }

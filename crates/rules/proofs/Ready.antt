@@ -231,9 +231,14 @@ pub record Ready (s : State) (c : Call) (me k : ℕ) (o : Op) : Type 0 where
 abbrev pub slotOf : State → Call → ℕ
 slotOf s c = presented (paid s c) (caller s c) (c .presented)
 
+pub early-fits : (s : State) (c : Call) → early s c ≡ 0 → argumentsFit (op (c .number)) c ≡ true
+unfolding inRange
+early-fits s c e = all3 (nameFits (c .caller)) (not (presents (op (c .number))) || nameFits (c .presented .name))
+    (argumentsFit (op (c .number)) c) (early-none s c e .0) .2
+
 pub ready : (s : State) (c : Call) → Objects (s .object) → early s c ≡ 0 → late (paid s c) c (slotOf s c) ≡ 0
     → Ready (paid s c) c (caller s c) (slotOf s c) (op (c .number))
-unfolding paid toHouse spend withCash withHouse late caller objectNamed inRange
+unfolding paid toHouse spend withCash withHouse late caller objectNamed
 ready s c O e f =
     let a = early-none s c e in
     let r = runner s c O (a .1) in
@@ -241,8 +246,7 @@ ready s c O e f =
     record {
       who = r .0;
       name = r .1;
-      fits = all3 (nameFits (c .caller)) (not (presents (op (c .number))) || nameFits (c .presented .name))
-          (argumentsFit (op (c .number)) c) (a .0) .2;
+      fits = early-fits s c e;
       shown = λ p. shown (paid s c) (caller s c) (c .presented) (b .0 p);
       none = b .1;
     }

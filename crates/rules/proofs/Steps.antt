@@ -107,7 +107,7 @@ module _ (s : State) (G : Formed s) (c : Call) where
       (λ e f q.
       let P = keep-paid e in
       kept-then P (keeps (paid s c) (P .formed) c (caller s c) (slotOf s c) h (A .words) (op (c .number))
-      (ready s c (G .objects) e f) (open-takes s c h (q (is-done s c h)))))
+      (ready s c (G .objects) e f) (open-takes s c h (q (is-done s c h e)))))
       (A .choice)
 
   -- ---- the ledger beside it
@@ -148,6 +148,6 @@ module _ (s : State) (G : Formed s) (c : Call) where
         (λ e n q. beside-refused (late (paid s c) c (slotOf s c)) (paid s c) n K)
         (λ e f q.
         let L = links (paid s c) (keep-paid e .formed) c (caller s c) (slotOf s c) h (A .words) l K (op (c .number))
-        (ready s c (G .objects) e f) (open-takes s c h (q (is-done s c h))) in
-        subst (Linking (done-out s c h .after)) (sym (ap (book l c) (is-done s c h) ∙ booked-done e f)) L)
+        (ready s c (G .objects) e f) (open-takes s c h (q (is-done s c h e))) in
+        subst (Linking (done-out s c h .after)) (sym (ap (book l c) (is-done s c h e) ∙ booked-done e f)) L)
         (A .choice)

@@ -13,7 +13,7 @@ use Rattle.rules.specs.Store.{Window, Message, Object, Cap, State, path,
 use Rattle.rules.specs.Store.{blocks, objectsLive, capsLive, freeBlocks, sumsIn}
 use Rattle.rules.specs.Rights.{Op, makeObj, read, write, capInfo, deriveCap, deleteCap, renameObj, withdraw}
 use Rattle.rules.specs.Rights.{deposit, suspend, resume, applyLock, send, receive, wait, revive, unknown, both}
-use Rattle.rules.specs.Call.{Call, Outcome, Choice, done, handsBack, handsOver, tells}
+use Rattle.rules.specs.Call.{Call, Outcome, Choice, code, done, handsBack, handsOver, tells}
 use Rattle.rules.specs.Refusals.{Refusal, _when_}
 use Rattle.rules.specs.Update.{withBytes, withLock, withBox}
 use Rattle.rules.specs.Changes.{earn, spend, toHouse, setSuspended, setWaiting, setTerminated, onClimb, newCap}
@@ -271,7 +271,8 @@ module _ (s : State) (c : Call) (me k : ℕ) where
   does h receive = receiveDoes (s .box me)
   does h wait = waitDoes
   does h revive = reviveDoes
-  does h unknown = done s
+  -- answered 2 before this
+  does h unknown = record { answer = code Code.outOfRange; after = s }
 
 -- a theorem that computes with this file's definitions says `unfolding` and this name
 unfoldable pub computes : Unit {0}
