@@ -20,8 +20,8 @@ use Rattle.layout.proofs.Field.{field-in}
 use Rattle.layout.proofs.Shown.{set-yes, set-no}
 use Rattle.call_steps.specs.Tests.{ObjectSlot}
 use Rattle.call_steps.proofs.Finding.{find-le}
-use Rattle.call_transfer.specs.Runs.{hop, Blocked}
-use Rattle.call_transfer.proofs.Hops.{hop-block}
+use Rattle.call_blocks.specs.Walk.{hop, Blocked}
+use Rattle.call_blocks.proofs.Hops.{hop-block}
 use Rattle.call_ending.specs.Forfeit.{sumsFrom, holdings, forfeited, endedWords, HoldsAsk, ForfeitAsks, SumsAsk}
 use Rattle.call_ending.specs.Links.{instead, lastBlock, givenBlocks, isBefore, before, unlinked}
 use Rattle.call_ending.specs.Links.{freedObject, freedCap, endedLinks, BlocksAsk, ObjectAsks}
@@ -120,7 +120,7 @@ given-is {l} {o} a e h =
 module _ {l : List ℕ} {o : ℕ} (a : BlocksAsk l o) where
   pub blocked : Blocked l (firstBlockOf l o) (blocks (sizeOf l o) - 1)
   blocked i p = hop-block (nextBlockOf l) (firstBlockOf l o) (a .chain .0) (a .chain .1) i
-      (omega (arith, a .chain .2))
+      (omega (arith, a .chain .2)) .1
 
   pub last-none : blocks (sizeOf l o) ≡ 0 → lastBlock l o ≡ 0
   unfolding lastBlock hop

@@ -13,7 +13,7 @@ use Rattle.layout.specs.Layout as Layout
 use Rattle.layout.specs.Rows.{sizeOf, firstBlockOf, nextObjectOf, nextBlockOf}
 use Rattle.layout.specs.Shape.{Chain}
 use Rattle.call_steps.specs.Tests.{ObjectSlot, CapSlot}
-use Rattle.call_transfer.specs.Runs.{hop}
+use Rattle.call_blocks.specs.Walk.{hop}
 
 -- x, but z where x is y
 unfoldable pub instead : ℕ → ℕ → ℕ → ℕ
