@@ -22,9 +22,10 @@ use Rattle.call_steps.specs.Tests.{ObjectSlot}
 use Rattle.call_steps.proofs.Finding.{find-le}
 use Rattle.call_blocks.specs.Walk.{hop, Blocked}
 use Rattle.call_blocks.proofs.Hops.{hop-block}
+use Rattle.call_prune.specs.Links.{freedCap}
 use Rattle.call_ending.specs.Forfeit.{sumsFrom, holdings, forfeited, endedWords, HoldsAsk, ForfeitAsks, SumsAsk}
 use Rattle.call_ending.specs.Links.{instead, lastBlock, givenBlocks, isBefore, before, unlinked}
-use Rattle.call_ending.specs.Links.{freedObject, freedCap, endedLinks, BlocksAsk, ObjectAsks}
+use Rattle.call_ending.specs.Links.{freedObject, endedLinks, BlocksAsk, ObjectAsks}
 use Rattle.call_ending.specs.Ended.{EndsObject}
 use Rattle.layout.proofs.Joining.{head-none}
 
