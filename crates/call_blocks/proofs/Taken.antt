@@ -9,7 +9,7 @@ use native.Mathlib.Omega.{arith}
 use lib.Dec.{ltb}
 use lib.ListN.{length, getD}
 use borrow.Author.Tests.{le-ltb, ltb-false}
-use Rattle.rules.specs.Store.{blocks, freeBlocks}
+use Rattle.rules.specs.Store.{freeBlocks}
 use Rattle.rules.proofs.Slots.{at-here, at-else}
 use Rattle.layout.specs.Layout as Layout
 use Rattle.layout.specs.Rows.{field, firstBlockOf, nextBlockOf}

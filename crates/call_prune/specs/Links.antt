@@ -10,6 +10,7 @@ use Rattle.rules.specs.Limit as Limit
 use Rattle.layout.specs.Layout as Layout
 use Rattle.layout.specs.Rows.{ownerOf, parentOf, firstChildOf, nextCapOf, prevCapOf}
 use Rattle.layout.specs.Shape.{Shape}
+use Rattle.layout.specs.Sizes.{Slot}
 
 -- ---- a leaf
 
@@ -69,8 +70,7 @@ deletedLinks l k = droppedLinks (prunedLinks l k) k
 
 pub record CapAsks (l : List ℕ) (j : ℕ) : Type 0 where
   pub links : length l ≡ Layout.LINKS
-  pub low : 1 ≤ j
-  pub high : j ≤ Limit.caps
+  pub slot : Slot Limit.caps j
 
 -- j is a capability's slot, and its links name slots, or none
 pub record NamesSlots (l : List ℕ) (j : ℕ) : Type 0 where
