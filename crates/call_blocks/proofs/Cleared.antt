@@ -15,7 +15,8 @@ use Rattle.layout.specs.View.{gather}
 use Rattle.layout.specs.Shape.{Chain, times}
 use Rattle.layout.proofs.Counts.{one-same}
 use Rattle.layout.proofs.Field.{field-cells, region-cells, region-at, region-length}
-use Rattle.call_blocks.specs.Taking.{later, zeroed, dataFrom, cleared}
+use Rattle.call_blocks.specs.Walk.{hop}
+use Rattle.call_blocks.specs.Taking.{zeroed, dataFrom, cleared}
 use Rattle.call_blocks.proofs.Walking.{zeroed-length}
 use Rattle.call_blocks.proofs.Splitting.{Split}
 
@@ -56,9 +57,9 @@ module _ (next : ℕ → ℕ) where
   cleared-length (suc n) k b = cleared-length n (next k) (zeroed 64 (dataFrom k) b) ∙ zeroed-length 64 (dataFrom k) b
 
   -- a cell of no block cleared
-  cleared-out : (n k : ℕ) (b : List ℕ) (p : ℕ) → ((i : ℕ) → i < n → Inside (later next i k) p → ⊥)
+  cleared-out : (n k : ℕ) (b : List ℕ) (p : ℕ) → ((i : ℕ) → i < n → Inside (hop next i k) p → ⊥)
       → getD (cleared next n k b) p 0 ≡ getD b p 0
-  unfolding cleared later
+  unfolding cleared hop
   cleared-out zero k b p h = refl
   cleared-out (suc n) k b p h =
       cleared-out n (next k) (zeroed 64 (dataFrom k) b) p (λ i q. h (suc i) (omega arith))
@@ -73,9 +74,9 @@ module _ (next : ℕ → ℕ) where
       (rw (zeroed-length 64 (dataFrom k) b) z)
 
   -- a cell of a block cleared
-  cleared-in : (n k : ℕ) (b : List ℕ) (p i : ℕ) → i < n → Inside (later next i k) p → p < length b
+  cleared-in : (n k : ℕ) (b : List ℕ) (p i : ℕ) → i < n → Inside (hop next i k) p → p < length b
       → getD (cleared next n k b) p 0 ≡ 0
-  unfolding cleared later
+  unfolding cleared hop
   cleared-in zero k b p i h x z = absurd (omega arith)
   cleared-in (suc n) k b p zero h x z =
       cleared-none n (next k) (zeroed 64 (dataFrom k) b) p (zeroed-in 64 (dataFrom k) b p (x .low) (x .high) z)
@@ -156,7 +157,7 @@ module _ (b : List ℕ) (long : length b ≡ Layout.BYTES) {next next′ : ℕ �
       let q : i < 64 = omega (arith, p, block-length b′ clear-length k high) in
       block-at b′ clear-length k high i q
       ∙ cleared-out next n head b (dataFrom k + i) (λ j r x.
-      let e : later next j head ≡ k = omega (arith, x .low, x .high) in
+      let e : hop next j head ≡ k = omega (arith, x .low, x .high) in
       omega (arith, z, ap (λ y. times y (S .front)) e, S .place j r))
       ∙ sym (block-at b long k high i q))
 

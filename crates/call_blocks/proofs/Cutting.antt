@@ -1,5 +1,5 @@
 -- The run of `too_few` and of `take`, as the code comes to it: by whether n is 0.
-use Prim.Native.Nat.{ℕ, zero, suc, _+_, _-_, _≤_, _<_}
+use Prim.Native.Nat.{ℕ, zero, suc, _+_, _-_, _≤_}
 use mathlib.Core.Path.{_≡_, refl, sym, ap, _∙_}
 use mathlib.Core.Logic.{_≢_}
 use mathlib.Core.Bool.{false}
@@ -10,8 +10,8 @@ use lib.ListN.{getD, set}
 use Rattle.layout.specs.Layout as Layout
 use Rattle.layout.specs.Rows.{nextBlockOf}
 use Rattle.layout.proofs.Field.{field-in}
-use Rattle.call_blocks.specs.Taking.{later, freeHead, freeBlock, lastFree, tooFew, takenLinks, Enough}
-use Rattle.call_blocks.proofs.Walking.{Rest, rest-high, rest-next, rest-low, next-zero, enough-rest}
+use Rattle.call_blocks.specs.Taking.{freeHead, freeBlock, lastFree, tooFew, takenLinks, Enough}
+use Rattle.call_blocks.proofs.Hops.{hop-block}
 
 pub few-none : (l : List ℕ) (n : ℕ) → n ≡ 0 → false ≡ tooFew l n
 unfolding tooFew
@@ -34,24 +34,14 @@ last-free l (suc m) h =
     let p : m ≡ suc m - 1 = omega arith in
     ap (freeBlock l) p
 
-later-rest : (next : ℕ → ℕ) → next 0 ≡ 0 → (m block n : ℕ) → m < n → Rest next block n
-    → Rest next (later next m block) (n - m)
-unfolding later
-later-rest next z zero block n h r =
-    let e : n - 0 ≡ n = omega arith in
-    rw e r
-later-rest next z (suc m) block n h r =
-    let e : n - 1 - m ≡ n - suc m = omega arith in
-    rw e at (later-rest next z m (next block) (n - 1) (omega arith) (rest-next z r))
-
 pub record Block (k : ℕ) : Type 0 where
   pub low : 1 ≤ k
   pub high : k ≤ 512
 
 pub last-block : {l : List ℕ} {n : ℕ} → Enough l n → n ≢ 0 → (k : ℕ) → k ≡ freeBlock l (n - 1) → Block k
 last-block {l} {n} a h k e =
-    let r = later-rest (nextBlockOf l) (next-zero l) (n - 1) (freeHead l) n (omega arith) (enough-rest a) in
-    rw e (record { low = rest-low r (omega arith); high = rest-high r })
+    let t = hop-block (nextBlockOf l) (freeHead l) (a .chain .0) (a .chain .1) (n - 1) (omega (arith, a .chain .2)) in
+    rw e (record { low = t .0; high = t .1 })
 
 -- ---- the chain cut
 

@@ -1,3 +1,5 @@
+-- a chain, followed
+pub mod Hops
 -- the code comes to the run
 pub mod Walking
 pub mod Cutting

@@ -1,20 +1,17 @@
 -- A chain cut after its n-th block: the blocks before the cut, and those after it.
 use Prim.Native.Nat.{ℕ, zero, suc, _+_, _≤_, _<_}
-use mathlib.Core.Path.{_≡_, refl, sym, ap, _∙_}
+use mathlib.Core.Path.{_≡_, refl, ap}
 use mathlib.Core.Logic.{_≢_}
 use mathlib.Core.List.{List, [], _∷_, _++_}
 use native.Mathlib.Omega.{arith}
 use native.Mathlib.Decide.{ℕ-discrete}
-use lib.Dec.{eqb, ltb}
 use lib.ListN.{length}
-use borrow.Author.Tests.{eq-eqb, ne-eqb, ltb-true, ltb-false}
 use Rattle.rules.specs.Slots.{at}
-use Rattle.rules.proofs.Tests.{by-bool}
 use Rattle.rules.proofs.Slots.{at-here, at-else}
 use Rattle.layout.specs.Shape.{Chain, times}
 use Rattle.layout.proofs.Counts.{one-same, one-other}
 use Rattle.layout.proofs.Linking.{times-append, chain-at}
-use Rattle.call_blocks.specs.Taking.{later}
+use Rattle.call_blocks.specs.Walk.{hop}
 
 -- xs, the chain from head on by the links next, is cut after n blocks: by the links next′ the blocks before the cut are
 -- a chain from first on, and those after it one from rest on
@@ -28,8 +25,8 @@ pub record Split (next next′ : ℕ → ℕ) (head first rest n : ℕ) (xs : Li
   -- the links of other blocks are as they were
   pub other : (k : ℕ) → times k front ≡ 0 → next′ k ≡ next k
   -- the blocks before the cut are those of the first n steps
-  pub place : (i : ℕ) → i < n → 1 ≤ times (later next i head) front
-  pub found : (k : ℕ) → 1 ≤ times k front → (i : ℕ) × (i < n) × (k ≡ later next i head)
+  pub place : (i : ℕ) → i < n → 1 ≤ times (hop next i head) front
+  pub found : (k : ℕ) → 1 ≤ times k front → (i : ℕ) × (i < n) × (k ≡ hop next i head)
 
 pub split-none : (next : ℕ → ℕ) (head : ℕ) (xs : List ℕ) → Chain 512 next head xs → Split next next head 0 head 0 xs
 unfolding Chain times
@@ -48,7 +45,7 @@ split-none next head xs c = record {
 module _ (next : ℕ → ℕ) where
   split-one : (j : ℕ) (xs : List ℕ) → 1 ≤ j → j ≤ 512 → Chain 512 next (next j) xs → times j xs ≡ 0
       → Split next (at next j 0) j j (next j) 1 (j ∷ xs)
-  unfolding Chain times later
+  unfolding Chain times hop
   split-one j xs low high c z = record {
     front = j ∷ [];
     back = xs;
@@ -61,7 +58,7 @@ module _ (next : ℕ → ℕ) where
     found = λ k h. (0, omega arith, hit k h (ℕ-discrete k j));
   }
     where
-      first : (i : ℕ) → i < 1 → 1 ≤ times (later next i j) (j ∷ [])
+      first : (i : ℕ) → i < 1 → 1 ≤ times (hop next i j) (j ∷ [])
       first zero h = omega (arith, one-same j)
       first (suc i) h = absurd (omega arith)
 
@@ -71,10 +68,10 @@ module _ (next : ℕ → ℕ) where
 
   -- one block more in front
   module _ (j m : ℕ) (xs : List ℕ) (low : 1 ≤ j) (high : j ≤ 512) (alone : times j xs ≡ 0)
-      (S : Split next (at next (later next m (next j)) 0) (next j) (next j) (next (later next m (next j))) (suc m) xs)
+      (S : Split next (at next (hop next m (next j)) 0) (next j) (next j) (next (hop next m (next j))) (suc m) xs)
     where
       abbrev last : ℕ
-      last = later next m (next j)
+      last = hop next m (next j)
 
       apart : j ≢ last
       apart e =
@@ -86,16 +83,16 @@ module _ (next : ℕ → ℕ) where
             times-append j (S .front) (S .back),
           )
 
-      places : (i : ℕ) → i < suc (suc m) → 1 ≤ times (later next i j) (j ∷ S .front)
-      unfolding times later
+      places : (i : ℕ) → i < suc (suc m) → 1 ≤ times (hop next i j) (j ∷ S .front)
+      unfolding times hop
       places zero h = omega (arith, one-same j)
       places (suc i) h = omega (arith, S .place i (omega arith))
 
-      finds : (k : ℕ) → 1 ≤ times k (j ∷ S .front) → (i : ℕ) × (i < suc (suc m)) × (k ≡ later next i j)
-      unfolding times later
+      finds : (k : ℕ) → 1 ≤ times k (j ∷ S .front) → (i : ℕ) × (i < suc (suc m)) × (k ≡ hop next i j)
+      unfolding times hop
       finds k h = go (ℕ-discrete k j)
         where
-          go : Dec (k ≡ j) → (i : ℕ) × (i < suc (suc m)) × (k ≡ later next i j)
+          go : Dec (k ≡ j) → (i : ℕ) × (i < suc (suc m)) × (k ≡ hop next i j)
           go (yes e) = (0, omega arith, e)
           go (no ne) =
               let f = S .found k (omega (arith, one-other k j ne)) in
@@ -117,21 +114,21 @@ module _ (next : ℕ → ℕ) where
 
   -- the same from a head that is j
   one-from : (head j : ℕ) (xs : List ℕ) → head ≡ j → 1 ≤ j → j ≤ 512 → Chain 512 next (next j) xs → times j xs ≡ 0
-      → Split next (at next (later next 0 head) 0) head head (next (later next 0 head)) 1 (j ∷ xs)
-  unfolding later
+      → Split next (at next (hop next 0 head) 0) head head (next (hop next 0 head)) 1 (j ∷ xs)
+  unfolding hop
   one-from head j xs e low high c z = rw e (split-one j xs low high c z)
 
   more-from : (head j m : ℕ) (xs : List ℕ) → head ≡ j → 1 ≤ j → j ≤ 512 → times j xs ≡ 0
-      → Split next (at next (later next m (next j)) 0) (next j) (next j) (next (later next m (next j))) (suc m) xs
-      → Split next (at next (later next (suc m) head) 0) head head (next (later next (suc m) head)) (suc (suc m))
+      → Split next (at next (hop next m (next j)) 0) (next j) (next j) (next (hop next m (next j))) (suc m) xs
+      → Split next (at next (hop next (suc m) head) 0) head head (next (hop next (suc m) head)) (suc (suc m))
       (j ∷ xs)
-  unfolding later
+  unfolding hop
   more-from head j m xs e low high z S = rw e (split-more j m xs low high z S)
 
   -- after m steps, where no block is in the chain twice
   pub split-some : (m head : ℕ) (xs : List ℕ) → Chain 512 next head xs → m < length xs
       → ((k : ℕ) → 1 ≤ k → k ≤ 512 → times k xs ≤ 1)
-      → Split next (at next (later next m head) 0) head head (next (later next m head)) (suc m) xs
+      → Split next (at next (hop next m head) 0) head head (next (hop next m head)) (suc m) xs
   unfolding Chain times
   split-some m head [] c h once = absurd (omega arith)
   split-some zero head (j ∷ xs) c h once =
@@ -139,31 +136,3 @@ module _ (next : ℕ → ℕ) where
   split-some (suc m) head (j ∷ xs) c h once =
       more-from head j m xs (c .0) (c .1) (c .2) (omega (arith, once j (c .1) (c .2), one-same j))
       (split-some m (next j) xs (c .3) (omega arith) (λ k p q. omega (arith, once k p q)))
-
-  -- ---- steps past the end
-
-  later-zero : next 0 ≡ 0 → (m : ℕ) → later next m 0 ≡ 0
-  unfolding later
-  later-zero z zero = refl
-  later-zero z (suc m) = rw z (later-zero z m)
-
-  pub later-past : next 0 ≡ 0 → (m head : ℕ) (xs : List ℕ) → Chain 512 next head xs → length xs ≤ m
-      → later next m head ≡ 0
-  unfolding Chain later
-  later-past z m head [] c h = rw c (later-zero z m)
-  later-past z zero head (j ∷ xs) c h = absurd (omega arith)
-  later-past z (suc m) head (j ∷ xs) c h = rw (c .0) (later-past z m (next j) xs (c .3) (omega arith))
-
-  pub later-within : (m head : ℕ) (xs : List ℕ) → Chain 512 next head xs → m < length xs → 1 ≤ later next m head
-  unfolding Chain later
-  later-within m head [] c h = absurd (omega arith)
-  later-within zero head (j ∷ xs) c h = rw (c .0) (c .1)
-  later-within (suc m) head (j ∷ xs) c h = rw (c .0) (later-within m (next j) xs (c .3) (omega arith))
-
-  pub past-is : next 0 ≡ 0 → (m head : ℕ) (xs : List ℕ) → Chain 512 next head xs
-      → eqb (later next m head) 0 ≡ ltb (length xs) (suc m)
-  past-is z m head xs c = by-bool (ltb (length xs) (suc m))
-      (λ e. eq-eqb _ 0 (later-past z m head xs c (omega (arith, ltb-true (length xs) (suc m) e))) ∙ sym e)
-      (λ e.
-      let h : m < length xs = omega (arith, ltb-false (length xs) (suc m) e) in
-      ne-eqb (later next m head) 0 (λ q. omega (arith, later-within m head xs c h)) ∙ sym e)

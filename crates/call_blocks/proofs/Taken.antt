@@ -9,7 +9,7 @@ use native.Mathlib.Omega.{arith}
 use lib.Dec.{ltb}
 use lib.ListN.{length, getD}
 use borrow.Author.Tests.{le-ltb, ltb-false}
-use Rattle.rules.specs.Store.{blocks, freeBlocks}
+use Rattle.rules.specs.Store.{freeBlocks}
 use Rattle.rules.proofs.Slots.{at-here, at-else}
 use Rattle.layout.specs.Layout as Layout
 use Rattle.layout.specs.Rows.{field, firstBlockOf, nextBlockOf}
@@ -19,9 +19,10 @@ use Rattle.layout.proofs.Puts.{Put, put, Within, beside, length-puts, field-put
 use Rattle.layout.proofs.Heads.{head-kept}
 use Rattle.layout.proofs.Free.{blocks-free}
 use Rattle.call_blocks.specs.Taking.{freeHead, freeBlock, tooFew, takenLinks, FreeChain, Enough}
+use Rattle.call_blocks.proofs.Hops.{past-is}
 use Rattle.call_blocks.proofs.Walking.{next-zero}
 use Rattle.call_blocks.proofs.Cutting.{Block, last-block}
-use Rattle.call_blocks.proofs.Splitting.{Split, split-none, split-some, past-is}
+use Rattle.call_blocks.proofs.Splitting.{Split, split-none, split-some}
 
 -- ---- 01, "too few free blocks"
 

@@ -9,7 +9,9 @@ use Rattle.layout.specs.Layout as Layout
 use Rattle.layout.specs.Rows.{nextBlockOf}
 use Rattle.layout.specs.Shape.{Chain}
 use Rattle.layout.proofs.Field.{field-out}
-use Rattle.call_blocks.specs.Taking.{later, freeHead, freeBlock, lastFree, zeroed, dataFrom, cleared, FreeChain, Enough}
+use Rattle.call_blocks.specs.Walk.{hop, Blocked}
+use Rattle.call_blocks.specs.Taking.{freeHead, freeBlock, lastFree, zeroed, dataFrom, cleared, FreeChain, Enough}
+use Rattle.call_blocks.proofs.Hops.{hop-last, hop-high}
 
 -- after 0 comes 0
 pub next-zero : (l : List ℕ) → nextBlockOf l 0 ≡ 0
@@ -41,50 +43,7 @@ module _ {next : ℕ → ℕ} {block : ℕ} where
       go [] c h = record { blocks = []; chain = ap next c ∙ z; long = omega arith }
       go (j ∷ xs) c h = record { blocks = xs; chain = rw (c .0) (c .3); long = omega arith }
 
-  pub rest-low : {n : ℕ} → Rest next block n → 1 ≤ n → 1 ≤ block
-  unfolding Chain
-  rest-low {n} r p = go (r .blocks) (r .chain) (r .long)
-    where
-      go : (xs : List ℕ) → Chain 512 next block xs → n ≤ length xs → 1 ≤ block
-      go [] c h = absurd (omega arith)
-      go (j ∷ xs) c h = omega (arith, c .0, c .1)
-
--- ---- steps
-
--- i of n steps are made
-pub record Walking (next : ℕ → ℕ) (head n i block : ℕ) : Type 0 where
-  pub below : i ≤ n
-  pub chain : Rest next block 0
-  pub same : later next (n - i) block ≡ later next n head
-
-pub walk-none : {next : ℕ → ℕ} {head n : ℕ} → Rest next head 0 → Walking next head n 0 head
-walk-none {next} {head} {n} r =
-    let e : n - 0 ≡ n = omega arith in
-    record { below = omega arith; chain = r; same = ap (λ m. later next m head) e }
-
-pub walk-more : {next : ℕ → ℕ} {head n i block : ℕ} → next 0 ≡ 0 → Walking next head n i block → i < n
-    → Walking next head n (i + 1) (next block)
-unfolding later
-walk-more {next} {head} {n} {i} {block} z w h =
-    let e : n - i ≡ suc (n - (i + 1)) = omega arith in
-    record {
-      below = omega arith;
-      chain = rest-next z (w .chain);
-      same = sym (ap (λ m. later next m block) e) ∙ w .same;
-    }
-
-pub walk-all : {next : ℕ → ℕ} {head n i block : ℕ} → Walking next head n i block → n ≤ i → block ≡ later next n head
-unfolding later
-walk-all {next} {head} {n} {i} {block} w h =
-    let e : n - i ≡ 0 = omega arith in
-    sym (ap (λ m. later next m block) e) ∙ w .same
-
 -- ---- the last block passed
-
-pub later-next : (next : ℕ → ℕ) (i k : ℕ) → later next (suc i) k ≡ next (later next i k)
-unfolding later
-later-next next zero k = refl
-later-next next (suc i) k = later-next next i (next k)
 
 -- i blocks are passed: block is the next, last the last of them
 pub record Passing (l : List ℕ) (i block last : ℕ) : Type 0 where
@@ -92,14 +51,14 @@ pub record Passing (l : List ℕ) (i block last : ℕ) : Type 0 where
   pub passed : last ≡ lastFree l i
 
 pub passing-none : (l : List ℕ) (k : ℕ) → k ≡ freeHead l → Passing l 0 k 0
-unfolding later lastFree
+unfolding hop lastFree
 passing-none l k e = record { here = e; passed = refl }
 
 pub passing-more : {l : List ℕ} {i block last : ℕ} → Passing l i block last → (k : ℕ) → k ≡ nextBlockOf l block
     → Passing l (i + 1) k block
 unfolding lastFree
 passing-more {l} {i} {block} p k e = rw (add-one i) (record {
-  here = e ∙ ap (nextBlockOf l) (p .here) ∙ sym (later-next (nextBlockOf l) i (freeHead l));
+  here = e ∙ ap (nextBlockOf l) (p .here) ∙ sym (hop-last (nextBlockOf l) i (freeHead l));
   passed = p .here;
 })
 
@@ -173,8 +132,8 @@ clearing-all {next} {head} {n} {b} {b′} {i} {block} w h =
 
 -- ---- what the code asks
 
-pub free-rest : {l : List ℕ} → FreeChain l → Rest (nextBlockOf l) (freeHead l) 0
-free-rest f = record { blocks = f .chain .0; chain = f .chain .1; long = omega arith }
+pub free-blocked : {l : List ℕ} → FreeChain l → (n : ℕ) → Blocked l (freeHead l) n
+free-blocked {l} f n i h = hop-high (nextBlockOf l) (next-zero l) i (freeHead l) (f .chain .0) (f .chain .1)
 
 pub enough-rest : {l : List ℕ} {n : ℕ} → Enough l n → Rest (nextBlockOf l) (freeHead l) n
 enough-rest f = record { blocks = f .chain .0; chain = f .chain .1; long = f .chain .2 }

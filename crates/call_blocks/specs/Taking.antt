@@ -10,18 +10,14 @@ use Rattle.rules.specs.Limit as Limit
 use Rattle.layout.specs.Layout as Layout
 use Rattle.layout.specs.Rows.{nextBlockOf}
 use Rattle.layout.specs.Shape.{Chain}
-
--- the block n steps after block k: after the last comes 0, and after 0 comes 0
-unfoldable pub later : (ℕ → ℕ) → ℕ → ℕ → ℕ
-later next zero k = k
-later next (suc n) k = later next n (next k)
+use Rattle.call_blocks.specs.Walk.{hop}
 
 -- the first free block, and the one n steps after it
 abbrev pub freeHead : List ℕ → ℕ
 freeHead l = getD l Layout.«FREE_BLOCKS» 0
 
 abbrev pub freeBlock : List ℕ → ℕ → ℕ
-freeBlock l n = later (nextBlockOf l) n (freeHead l)
+freeBlock l n = hop (nextBlockOf l) n (freeHead l)
 
 -- the last of the first n free blocks, 0 where n is 0
 unfoldable pub lastFree : List ℕ → ℕ → ℕ

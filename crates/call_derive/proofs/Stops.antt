@@ -15,9 +15,9 @@ use Rattle.rules.specs.Call.{handsBack}
 use Rattle.rules.specs.Refusals.{_when_, first}
 use Rattle.rules.specs.Calls.{moved}
 use Rattle.layout.specs.Layout as Layout
-use Rattle.layout.specs.Rows.{field, ownerOf, moneyOf}
+use Rattle.layout.specs.Rows.{ownerOf, moneyOf}
 use Rattle.layout.specs.View.{view}
-use Rattle.layout.proofs.Field.{field-in}
+use Rattle.layout.proofs.Field.{row}
 use Rattle.call_steps.specs.declared.request.Reply.{Reply}
 use Rattle.call_steps.specs.Refuses.{Refuses}
 use Rattle.call_steps.specs.Replies.{Gives, Replies}
@@ -26,10 +26,6 @@ use Rattle.call_steps.proofs.Replying.{replies-stopped, replies-done}
 use Rattle.call_grow.specs.declared.cap.NewCap.{NewCap}
 use Rattle.call_grow.specs.Made.{capOf, freeCap, newWords, Makes}
 use Rattle.call_derive.specs.Runs.{childIn, IsChild, derivedLinks, Adds, deriveStop, derived, deriveRun}
-
--- the cell of a capability's slot
-pub row : (off : ℕ) (l : List ℕ) (i : ℕ) → CapSlot i → field 512 off l i ≡ getD l (off + i) 0
-row off l i at = field-in 512 off l i (at .low) (at .high)
 
 -- ---- the child
 

@@ -12,8 +12,7 @@ use Rattle.layout.specs.Shape.{Chain, times, HasBlocks, BlockChains}
 use Rattle.layout.proofs.Counts.{one-same}
 use Rattle.layout.proofs.Linking.{sum-put, sum-two, sum-one, times-append, chain-low, chain-high, chain-frame}
 use Rattle.layout.proofs.Joining.{chain-join}
-use Rattle.call_transfer.specs.Runs.{hop}
-use Rattle.call_transfer.proofs.Hops.{hop-next}
+use Rattle.call_blocks.specs.Walk.{hop}
 
 -- the last of a chain of i + 1
 pub last-split : (n : ℕ) (next : ℕ → ℕ) (head : ℕ) (xs : List ℕ) (i : ℕ) → Chain n next head xs → length xs ≡ suc i
@@ -24,7 +23,7 @@ last-split n next head (j ∷ []) zero c e = ([], ap (λ x. x ∷ []) (sym (c .0
 last-split n next head (j ∷ k ∷ xs) zero c e = absurd (omega arith)
 last-split n next head (j ∷ xs) (suc i) c e =
     let t = last-split n next (next j) xs i (c .3) (omega arith) in
-    (j ∷ t .0, rw (c .0, hop-next next i j) (ap (λ x. j ∷ x) (t .1)))
+    (j ∷ t .0, rw (c .0) (ap (λ x. j ∷ x) (t .1)))
 
 module _ (m size first next : ℕ → ℕ) (head : ℕ) (b : BlockChains m size first next head)
     (o : ℕ) (low : 1 ≤ o) (high : o ≤ 64) (alive : m o ≢ 0)

@@ -21,8 +21,8 @@ use Rattle.layout.proofs.Field.{field-low, field-high}
 use Rattle.layout.proofs.Shown.{is-set, set-yes, process-lives, process-flag, process-yes}
 use Rattle.layout.proofs.Shaped.{shaped}
 use Rattle.call_steps.specs.Tests.{ObjectSlot, CapSlot}
-use Rattle.call_transfer.specs.Runs.{hop}
-use Rattle.call_transfer.proofs.Hops.{hop-block}
+use Rattle.call_blocks.specs.Walk.{hop}
+use Rattle.call_blocks.proofs.Hops.{hop-block}
 use Rattle.call_ending.specs.Links.{lastBlock, isBefore, before, BlocksAsk}
 use Rattle.call_ending.specs.Ended.{Last}
 use Rattle.call_ending.proofs.Walking.{instead-yes, instead-not, last-none, before-high}

@@ -27,7 +27,7 @@ use Rattle.layout.proofs.Shown.{process-no, object-none, bytes-none, lock-none,
 use Rattle.layout.proofs.Shown.{cap-none, money-none}
 use Rattle.layout.proofs.Frame.{state-is, object-same-at, bytes-same-at, lock-same-at, cash-same-at, marks-same-at}
 use Rattle.layout.proofs.Frame.{box-same-at, cap-same-at, money-same-at}
-use Rattle.call_transfer.proofs.Hops.{hop-in}
+use Rattle.call_blocks.proofs.Hops.{hop-in}
 use Rattle.call_ending.specs.Links.{lastBlock, endedLinks}
 use Rattle.call_ending.specs.Forfeit.{forfeited, endedWords}
 use Rattle.call_ending.specs.Ended.{Last}

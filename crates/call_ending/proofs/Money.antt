@@ -1,6 +1,6 @@
 -- The forfeit is what the rules say: moneyword, cash and box sums. The house has room for it.
-use Prim.Native.Nat.{ℕ, zero, suc, _+_, _*_, _≤_}
-use mathlib.Core.Path.{_≡_, refl, ap, _∙_}
+use Prim.Native.Nat.{ℕ, _+_, _*_, _≤_}
+use mathlib.Core.Path.{_≡_, refl, _∙_}
 use mathlib.Core.Logic.{_≢_}
 use mathlib.Core.Bool.{true, false}
 use mathlib.Core.List.{List}
@@ -11,19 +11,14 @@ use borrow.Author.Tests.{eq-eqb}
 use Rattle.rules.specs.Store.{State, sumsIn, moneyIn, allCash, allMasters, allBoxes}
 use Rattle.rules.proofs.Tests.{by-eq, pick-yes, pick-not}
 use Rattle.layout.specs.Layout as Layout
-use Rattle.layout.specs.Rows.{flagOf, countOf, lengthOf, textIn, masterOf, ownerOf, parentOf, sumOf}
-use Rattle.layout.specs.View.{isSet, messages, view}
+use Rattle.layout.specs.Rows.{flagOf, countOf, lengthOf, textIn, masterOf, ownerOf, parentOf}
+use Rattle.layout.specs.View.{isSet, view}
 use Rattle.layout.proofs.Field.{field-low, field-high}
 use Rattle.layout.proofs.Linking.{sum-one}
+use Rattle.layout.proofs.Summing.{sums-are}
 use Rattle.layout.proofs.Shown.{set-yes, set-no, process-yes, data-no, cash-here, cash-none, box-here, box-none}
 use Rattle.layout.proofs.Shown.{money-here, parent-is}
-use Rattle.call_ending.specs.Forfeit.{sumsFrom, holdings, forfeited}
-
-sums-are : (w : List ℕ) (len : ℕ → ℕ) (text : List ℕ) (n i : ℕ)
-    → sumsIn (messages n len (sumOf w) text i) ≡ sumsFrom w n i
-unfolding sumsIn messages sumsFrom
-sums-are w len text zero i = refl
-sums-are w len text (suc n) i = ap (λ x. sumOf w i + x) (sums-are w len text n (suc i))
+use Rattle.call_ending.specs.Forfeit.{holdings, forfeited}
 
 -- the object in slot o lives, and capability m is a master
 module _ (b l w : List ℕ) (o m : ℕ) (object : masterOf l o ≢ 0) (cap : ownerOf l m ≢ 0) where

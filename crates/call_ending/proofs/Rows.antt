@@ -11,8 +11,9 @@ use Rattle.layout.specs.Rows.{masterOf, serialOf, sizeOf, firstBlockOf, nextObj
 use Rattle.layout.specs.Rows.{ownerOf, parentOf, firstChildOf, nextCapOf, prevCapOf, rightsOf}
 use Rattle.layout.proofs.Puts.{Put, put, puts, length-puts, Within, field-puts, field-puts-at, head-puts, field-kept}
 use Rattle.call_steps.specs.Tests.{ObjectSlot, CapSlot}
+use Rattle.call_prune.specs.Links.{freedCap}
 use Rattle.call_ending.specs.Links.{instead, lastBlock, givenBlocks, isBefore, before, unlinked}
-use Rattle.call_ending.specs.Links.{freedObject, freedCap, endedLinks}
+use Rattle.call_ending.specs.Links.{freedObject, endedLinks}
 use Rattle.call_ending.proofs.Walking.{before-high}
 
 -- the object before o, by the row of next objects

@@ -1,12 +1,10 @@
--- The definitions of what an object's end leaves, as the code comes to them: sums step by step, the last block, and the
--- cells of the rows.
-use Prim.Native.Nat.{ℕ, zero, suc, _+_, _-_, _*_, _≤_, _<_}
-use mathlib.Core.Path.{_≡_, refl, sym, ap, _∙_}
+-- The definitions of what an object's end leaves, as the code comes to them: the last block, and the cells of the rows.
+use Prim.Native.Nat.{ℕ, _+_, _-_, _*_, _≤_}
+use mathlib.Core.Path.{_≡_, refl, sym, _∙_}
 use mathlib.Core.Logic.{_≢_}
 use mathlib.Core.Bool.{true, false}
 use mathlib.Core.List.{List}
 use native.Mathlib.Omega.{arith}
-use native.Mathlib.Numerals.{add-one}
 use lib.Dec.{eqb}
 use lib.ListN.{getD, set}
 use borrow.Author.Tests.{eq-eqb, ne-eqb}
@@ -16,33 +14,19 @@ use Rattle.rules.proofs.Tests.{by-eq, pick-yes, pick-not}
 use Rattle.layout.specs.Layout as Layout
 use Rattle.layout.specs.Rows.{flagOf, countOf, cashOf, sizeOf, firstBlockOf, nextBlockOf}
 use Rattle.layout.specs.View.{isSet}
+use Rattle.layout.specs.Sums.{sumsFrom}
 use Rattle.layout.proofs.Field.{field-in}
 use Rattle.layout.proofs.Shown.{set-yes, set-no}
 use Rattle.call_steps.specs.Tests.{ObjectSlot}
 use Rattle.call_steps.proofs.Finding.{find-le}
-use Rattle.call_transfer.specs.Runs.{hop, Blocked}
-use Rattle.call_transfer.proofs.Hops.{hop-block}
-use Rattle.call_ending.specs.Forfeit.{sumsFrom, holdings, forfeited, endedWords, HoldsAsk, ForfeitAsks, SumsAsk}
+use Rattle.call_blocks.specs.Walk.{hop, Blocked}
+use Rattle.call_blocks.proofs.Hops.{hop-block}
+use Rattle.call_prune.specs.Links.{freedCap}
+use Rattle.call_ending.specs.Forfeit.{holdings, forfeited, endedWords, HoldsAsk, ForfeitAsks}
 use Rattle.call_ending.specs.Links.{instead, lastBlock, givenBlocks, isBefore, before, unlinked}
-use Rattle.call_ending.specs.Links.{freedObject, freedCap, endedLinks, BlocksAsk, ObjectAsks}
+use Rattle.call_ending.specs.Links.{freedObject, endedLinks, BlocksAsk, ObjectAsks}
 use Rattle.call_ending.specs.Ended.{EndsObject}
 use Rattle.layout.proofs.Joining.{head-none}
-
--- ---- sums
-
--- the first of some messages, and the others
-pub sums-step : (w : List ℕ) (left at : ℕ) → 0 < left → 1 ≤ at → at ≤ 259
-    → sumsFrom w left at ≡ getD w (Layout.SUM + at) 0 + sumsFrom w (left - 1) (at + 1)
-unfolding sumsFrom
-sums-step w zero at some low high = absurd (omega arith)
-sums-step w (suc n) at some low high =
-    let n-is : suc n - 1 ≡ n = omega arith in
-    rw (add-one at, n-is) (ap (λ x. x + sumsFrom w n (suc at)) (field-in 259 Layout.SUM w at low high))
-
-pub sums-none : (w : List ℕ) (left at : ℕ) → left ≡ 0 → sumsFrom w left at ≡ 0
-unfolding sumsFrom
-sums-none w zero at e = refl
-sums-none w (suc n) at e = absurd (omega arith)
 
 -- ---- holdings
 
@@ -65,7 +49,7 @@ module _ (b w : List ℕ) {o : ℕ} (s : ObjectSlot o) where
       rw (cash, ← count-cell)
       (sym (pick-yes (isSet (flagOf b o)) _ 0 (set-yes (flagOf b o) (λ z. nz (sym flag-cell ∙ z)))))
 
--- what `sums_from` asks, and that the sum fits
+-- the count, and that the sum fits
 module _ {b w : List ℕ} {o : ℕ} (a : HoldsAsk b w o) (nz : getD b (Layout.FLAG + o) 0 ≢ 0) where
   pub count-low : getD b (Layout.COUNT + o) 0 ≤ 4
   count-low =
@@ -74,14 +58,6 @@ module _ {b w : List ℕ} {o : ℕ} (a : HoldsAsk b w o) (nz : getD b (Layout.FL
   pub holds-fit : {s : ℕ} → s ≡ sumsFrom w (getD b (Layout.COUNT + o) 0) (o * 4)
       → getD w (Layout.CASH + o) 0 + s ≤ 4294967295
   holds-fit e = omega (arith, e, holds-some b w (a .slot) nz, a .fits)
-
-  pub sums-ask : SumsAsk w (getD b (Layout.COUNT + o) 0) (o * 4)
-  sums-ask = record {
-    words = a .words;
-    low = omega (arith, a .slot .low);
-    high = omega (arith, count-low, a .slot .high);
-    fits = omega (arith, holds-some b w (a .slot) nz, a .fits);
-  }
 
 module _ {b w : List ℕ} {o m : ℕ} (a : ForfeitAsks b w o m) where
   pub forfeit-is : {x : ℕ} → x ≡ holdings b w o → getD w (Layout.MONEY + m) 0 + x ≡ forfeited b w o m
@@ -120,7 +96,7 @@ given-is {l} {o} a e h =
 module _ {l : List ℕ} {o : ℕ} (a : BlocksAsk l o) where
   pub blocked : Blocked l (firstBlockOf l o) (blocks (sizeOf l o) - 1)
   blocked i p = hop-block (nextBlockOf l) (firstBlockOf l o) (a .chain .0) (a .chain .1) i
-      (omega (arith, a .chain .2))
+      (omega (arith, a .chain .2)) .1
 
   pub last-none : blocks (sizeOf l o) ≡ 0 → lastBlock l o ≡ 0
   unfolding lastBlock hop

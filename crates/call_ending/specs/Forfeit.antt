@@ -1,5 +1,5 @@
 -- 01, "its moneyword, cash and box sums go to the house": what the end of an object brings, exactly.
-use Prim.Native.Nat.{ℕ, zero, suc, _+_, _*_, _≤_}
+use Prim.Native.Nat.{ℕ, _+_, _*_, _≤_}
 use mathlib.Core.Path.{_≡_}
 use mathlib.Core.Logic.{_≢_}
 use mathlib.Core.Bool.{true, false}
@@ -7,14 +7,10 @@ use mathlib.Core.List.{List}
 use lib.ListN.{length, getD, set}
 use Rattle.rules.specs.Limit as Limit
 use Rattle.layout.specs.Layout as Layout
-use Rattle.layout.specs.Rows.{flagOf, countOf, cashOf, sumOf, moneyOf}
+use Rattle.layout.specs.Rows.{flagOf, countOf, cashOf, moneyOf}
 use Rattle.layout.specs.View.{isSet}
+use Rattle.layout.specs.Sums.{sumsFrom}
 use Rattle.call_steps.specs.Tests.{ObjectSlot, CapSlot}
-
--- the sums of n messages from slot i on
-unfoldable pub sumsFrom : List ℕ → ℕ → ℕ → ℕ
-sumsFrom w zero i = 0
-sumsFrom w (suc n) i = sumOf w i + sumsFrom w n (suc i)
 
 -- cash and box sums of the object in slot o; a data object has none
 unfoldable pub holdings : List ℕ → List ℕ → ℕ → ℕ
@@ -32,12 +28,6 @@ unfoldable pub endedWords : List ℕ → List ℕ → ℕ → ℕ → List ℕ
 endedWords b w o m = set w Layout.HOUSE (getD w Layout.HOUSE 0 + forfeited b w o m)
 
 -- ---- what the code asks
-
-pub record SumsAsk (w : List ℕ) (n i : ℕ) : Type 0 where
-  pub words : length w ≡ Layout.WORDS
-  pub low : 1 ≤ i
-  pub high : i + n ≤ 260
-  pub fits : sumsFrom w n i ≤ Limit.word
 
 pub record HoldsAsk (b w : List ℕ) (o : ℕ) : Type 0 where
   pub bytes : length b ≡ Layout.BYTES

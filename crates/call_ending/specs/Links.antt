@@ -12,8 +12,9 @@ use Rattle.rules.specs.Store.{blocks}
 use Rattle.layout.specs.Layout as Layout
 use Rattle.layout.specs.Rows.{sizeOf, firstBlockOf, nextObjectOf, nextBlockOf}
 use Rattle.layout.specs.Shape.{Chain}
-use Rattle.call_steps.specs.Tests.{ObjectSlot, CapSlot}
-use Rattle.call_transfer.specs.Runs.{hop}
+use Rattle.call_steps.specs.Tests.{ObjectSlot}
+use Rattle.call_blocks.specs.Walk.{hop}
+use Rattle.call_prune.specs.Links.{freedCap}
 
 -- x, but z where x is y
 unfoldable pub instead : ℕ → ℕ → ℕ → ℕ
@@ -53,14 +54,6 @@ freedObject l o = set
     (set (set l (Layout.MASTER + o) 0) (Layout.«NEXT_OBJECT» + o) (getD l Layout.«FREE_OBJECTS» 0))
     Layout.«FREE_OBJECTS» o
 
--- ---- capabilities
-
--- capability m in front of the free ones, of no object
-unfoldable pub freedCap : List ℕ → ℕ → List ℕ
-freedCap l m = set
-    (set (set l (Layout.OWNER + m) 0) (Layout.«NEXT_CAP» + m) (getD l Layout.«FREE_CAPS» 0))
-    Layout.«FREE_CAPS» m
-
 -- ---- the whole
 
 -- the object in slot o, with its blocks and its master m
@@ -77,7 +70,3 @@ pub record BlocksAsk (l : List ℕ) (o : ℕ) : Type 0 where
 pub record ObjectAsks (l : List ℕ) (o : ℕ) : Type 0 where
   pub links : length l ≡ Layout.LINKS
   pub slot : ObjectSlot o
-
-pub record CapAsks (l : List ℕ) (m : ℕ) : Type 0 where
-  pub links : length l ≡ Layout.LINKS
-  pub slot : CapSlot m

@@ -1,8 +1,8 @@
 // The blocks of an object, given back: its chain stands in front of the free blocks.
 ghost use mathlib.Core.Path.{_≡_};
 ghost use Rattle.call_ending.specs.Links.{instead, lastBlock, givenBlocks, BlocksAsk};
+use call_blocks::chain::block_at;
 use call_steps::widen::wide16;
-use call_transfer::chain::block_at;
 use layout::FIRST_BLOCK;
 use layout::FREE_BLOCKS;
 use layout::NEXT_BLOCK;

@@ -1,31 +1,15 @@
 // "its moneyword, cash and box sums go to the house": here moneyword becomes cash.
 ghost use mathlib.Core.Path.{_≡_};
-ghost use Rattle.call_ending.specs.Forfeit.{sumsFrom, holdings, forfeited, endedWords, SumsAsk, HoldsAsk, ForfeitAsks};
+ghost use Rattle.call_ending.specs.Forfeit.{holdings, forfeited, endedWords, HoldsAsk, ForfeitAsks};
 use layout::CASH;
 use layout::COUNT;
 use layout::FLAG;
 use layout::HOUSE;
 use layout::MONEY;
-use layout::SUM;
+use layout::process::sums_from;
 use values::cash::Cash;
 use values::limit::BOX_SLOTS;
 use values::moneyword::Moneyword;
-
-// The sums of n messages from slot i on.
-fn sums_from(words: &[u32], n: usize, i: usize) -> u32
-    requires { ⌜ SumsAsk (now words) n i ⌝ }
-    ensures { λ r. ⌜ r ≡ sumsFrom (now (words .entry)) n i ⌝ }
-{
-    let mut total: u32 = 0;
-    let mut left = n;
-    let mut at = i;
-    while 0 < left {
-        total += words[SUM + at];
-        at += 1;
-        left -= 1;
-    }
-    total
-}
 
 // Cash and box sums of the object in slot o.
 fn holdings(bytes: &[u8], words: &[u32], o: usize) -> Cash
@@ -36,7 +20,7 @@ fn holdings(bytes: &[u8], words: &[u32], o: usize) -> Cash
         return Cash(0);
     }
     let sums = sums_from(words, bytes[COUNT + o] as usize, o * BOX_SLOTS);
-    Cash(words[CASH + o] + sums)
+    Cash(words[CASH + o] + sums as u32)
 }
 
 // With the moneyword of its master m.

@@ -3,7 +3,6 @@
 ghost use Rattle.call_steps.specs.Replies.{Replies};
 ghost use Rattle.call_mail.specs.Runs.{PlaceAsks, SendAsks, MessagePlaced, sendRun};
 use crate::copy::copy;
-use call_steps::objects::is_process;
 use call_steps::request::Reply;
 use call_steps::target::target;
 use layout::CASH;
@@ -12,6 +11,7 @@ use layout::LENGTH;
 use layout::SUM;
 use layout::TEXT;
 use layout::WAITING;
+use layout::process::is_process;
 use values::cash::Cash;
 use values::code::BOX_FULL;
 use values::code::NOT_PROCESS;

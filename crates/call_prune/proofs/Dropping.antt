@@ -13,7 +13,7 @@ use Rattle.layout.specs.Layout as Layout
 use Rattle.layout.specs.Rows.{masterOf, serialOf, sizeOf, firstBlockOf, nextObjectOf, nextBlockOf}
 use Rattle.layout.specs.Rows.{ownerOf, parentOf, firstChildOf, nextCapOf, prevCapOf, rightsOf}
 use Rattle.layout.proofs.Puts.{Put, put, puts, Within, length-puts, field-puts, field-puts-at, head-puts, field-kept}
-use Rattle.call_prune.specs.Links.{namedAt, droppedLinks, NamesSlots}
+use Rattle.call_prune.specs.Links.{namedAt, skipped, freedCap, droppedLinks, NamesSlots}
 use Rattle.call_prune.proofs.Stores.{named-first, named-next}
 use Rattle.call_prune.proofs.Removing.{Unlinks}
 
@@ -69,14 +69,15 @@ rows-then a b = record {
 -- ---- the stores
 
 -- the last to slot i of the row of n slots at off, which is what named the leaf
+abbrev skips : ℕ → ℕ → ℕ → ℕ → ℕ → List Put
+skips n off i q s = put 512 Layout.«PREV_CAP» s q ∷ put n off i s ∷ []
+
 abbrev drops : ℕ → ℕ → ℕ → ℕ → ℕ → ℕ → ℕ → List Put
 drops n off i q s j free =
     put 0 Layout.«FREE_CAPS» 0 j
     ∷ put 512 Layout.«NEXT_CAP» j free
     ∷ put 512 Layout.OWNER j 0
-    ∷ put 512 Layout.«PREV_CAP» s q
-    ∷ put n off i s
-    ∷ []
+    ∷ skips n off i q s
 
 module _ {l : List ℕ} {j : ℕ} (P : NamesSlots l j) (child : parentOf l j ≢ 0) where
   abbrev p : ℕ
@@ -94,9 +95,21 @@ module _ {l : List ℕ} {j : ℕ} (P : NamesSlots l j) (child : parentOf l j ≢
   abbrev l′ : List ℕ
   l′ = droppedLinks l j
 
+  -- what named the leaf is within 1025 cells, in both rows
+  named-within : (i : ℕ) × (i ≤ 1025) × (namedAt p q ≡ Layout.«FIRST_CHILD» + i)
+  named-within = by-eq q 0
+      (λ z. (p, omega (arith, P .parent-high), named-first p q z))
+      (λ nz. (513 + q, omega (arith, P .prev-high), named-next p q nz ∙ omega arith))
+
+  -- the first of the free records is as it was, once the leaf is out of its chain
+  free-same : getD (skipped l p q s) Layout.«FREE_CAPS» 0 ≡ free
+  free-same = rw (named-within .2)
+      (head-puts Layout.«FREE_CAPS» l (omega (arith, P .links)) (skips 1025 Layout.«FIRST_CHILD» (named-within .0) q s) refl
+      (omega (arith, P .next-high, named-within .1)))
+
   as-puts : (n off i : ℕ) → namedAt p q ≡ off + i → l′ ≡ puts (drops n off i q s j free) l
-  unfolding droppedLinks
-  as-puts n off i e = rw e refl
+  unfolding droppedLinks freedCap
+  as-puts n off i e = rw (free-same, e) refl
 
   -- ---- the rows of first children and next siblings, by what named the leaf
 
@@ -128,12 +141,7 @@ module _ {l : List ℕ} {j : ℕ} (P : NamesSlots l j) (child : parentOf l j ≢
         (field-puts 512 Layout.«NEXT_CAP» l (omega (arith, P .links)) ws₂ refl
         (omega (arith, P .high, P .prev-high, P .next-high, P .parent-high)) (omega (arith, P .low)))
 
-  -- ---- the other rows: both of those are within 1025 cells
-
-  named-within : (i : ℕ) × (i ≤ 1025) × (namedAt p q ≡ Layout.«FIRST_CHILD» + i)
-  named-within = by-eq q 0
-      (λ z. (p, omega (arith, P .parent-high), named-first p q z))
-      (λ nz. (513 + q, omega (arith, P .prev-high), named-next p q nz ∙ omega arith))
+  -- ---- the other rows
 
   abbrev ws : List Put
   ws = drops 1025 Layout.«FIRST_CHILD» (named-within .0) q s j free

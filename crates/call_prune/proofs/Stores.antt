@@ -5,13 +5,13 @@ use mathlib.Core.Logic.{_≢_}
 use mathlib.Core.List.{List}
 use native.Mathlib.Omega.{arith}
 use lib.Dec.{eqb}
-use lib.ListN.{getD, set}
+use lib.ListN.{length, getD, set, length-set}
 use borrow.Author.Tests.{eq-eqb, ne-eqb}
 use Rattle.rules.proofs.Tests.{by-eq, pick-yes, pick-not}
 use Rattle.layout.specs.Layout as Layout
 use Rattle.layout.specs.Rows.{field, parentOf, firstChildOf, nextCapOf, prevCapOf}
 use Rattle.layout.proofs.Field.{field-in}
-use Rattle.call_prune.specs.Links.{namedAt, freed, droppedLinks, turnedLinks, turnedSlot, NamesSlots, Turned}
+use Rattle.call_prune.specs.Links.{namedAt, freedCap, droppedLinks, turnedLinks, turnedSlot, NamesSlots, Turned}
 
 -- ---- the cell that names a capability
 
@@ -29,6 +29,10 @@ named-high p q hp hq = by-eq q 0
     (λ nz. omega (arith, named-next p q nz))
 
 -- ---- a leaf
+
+pub dropped-length : (l : List ℕ) (j : ℕ) → length (droppedLinks l j) ≡ length l
+unfolding droppedLinks freedCap
+dropped-length l j = simp length-set
 
 module _ {l : List ℕ} {j : ℕ} (P : NamesSlots l j) where
   -- the cell of the slot in a row
@@ -52,12 +56,11 @@ module _ {l : List ℕ} {j : ℕ} (P : NamesSlots l j) where
   cell-high {p} {q} r c e = let h = read-high r in omega (arith, e, named-high p q (h .0) (h .1))
 
   pub dropped-is : {p q s : ℕ} → Read p q s → (c : ℕ) → c ≡ namedAt p q
-      → freed (set (set l c (getD l (Layout.«NEXT_CAP» + j) 0)) (Layout.«PREV_CAP» + s) (getD l (Layout.«PREV_CAP» + j) 0))
-      j (getD l Layout.«FREE_CAPS» 0)
+      → freedCap
+      (set (set l c (getD l (Layout.«NEXT_CAP» + j) 0)) (Layout.«PREV_CAP» + s) (getD l (Layout.«PREV_CAP» + j) 0)) j
       ≡ droppedLinks l j
   unfolding droppedLinks
   dropped-is {p} {q} {s} r c e =
-      let m : List ℕ → List ℕ = λ x. freed x j (getD l Layout.«FREE_CAPS» 0) in
       let pe : p ≡ parentOf l j = r .parent-read ∙ sym (cell Layout.PARENT) in
       let qe : q ≡ prevCapOf l j = r .prev-read ∙ sym (cell Layout.«PREV_CAP») in
       let se : s ≡ nextCapOf l j = r .next-read ∙ sym (cell Layout.«NEXT_CAP») in

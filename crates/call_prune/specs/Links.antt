@@ -10,6 +10,7 @@ use Rattle.rules.specs.Limit as Limit
 use Rattle.layout.specs.Layout as Layout
 use Rattle.layout.specs.Rows.{ownerOf, parentOf, firstChildOf, nextCapOf, prevCapOf}
 use Rattle.layout.specs.Shape.{Shape}
+use Rattle.layout.specs.Sizes.{Slot}
 
 -- ---- a leaf
 
@@ -21,14 +22,15 @@ namedAt p q = elim (eqb q 0) [ true ↦ Layout.«FIRST_CHILD» + p | false ↦ L
 abbrev pub skipped : List ℕ → ℕ → ℕ → ℕ → List ℕ
 skipped l p q s = set (set l (namedAt p q) s) (Layout.«PREV_CAP» + s) q
 
--- j has no object, and is the first of the free records before `free`
-abbrev pub freed : List ℕ → ℕ → ℕ → List ℕ
-freed l j free = set (set (set l (Layout.OWNER + j) 0) (Layout.«NEXT_CAP» + j) free) Layout.«FREE_CAPS» j
+-- 01, "A freed record or block is used again": j is in front of the free records, of no object
+unfoldable pub freedCap : List ℕ → ℕ → List ℕ
+freedCap l j = set
+    (set (set l (Layout.OWNER + j) 0) (Layout.«NEXT_CAP» + j) (getD l Layout.«FREE_CAPS» 0))
+    Layout.«FREE_CAPS» j
 
 -- the links once j, which has no child, has ended
 unfoldable pub droppedLinks : List ℕ → ℕ → List ℕ
-droppedLinks l j =
-    freed (skipped l (parentOf l j) (prevCapOf l j) (nextCapOf l j)) j (getD l Layout.«FREE_CAPS» 0)
+droppedLinks l j = freedCap (skipped l (parentOf l j) (prevCapOf l j) (nextCapOf l j)) j
 
 -- ---- all below k: down to a leaf, which ends, and on at its parent, until k is a leaf itself
 
@@ -65,6 +67,10 @@ unfoldable pub deletedLinks : List ℕ → ℕ → List ℕ
 deletedLinks l k = droppedLinks (prunedLinks l k) k
 
 -- ---- what the code asks
+
+pub record CapAsks (l : List ℕ) (j : ℕ) : Type 0 where
+  pub links : length l ≡ Layout.LINKS
+  pub slot : Slot Limit.caps j
 
 -- j is a capability's slot, and its links name slots, or none
 pub record NamesSlots (l : List ℕ) (j : ℕ) : Type 0 where

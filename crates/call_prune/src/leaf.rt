@@ -3,10 +3,9 @@ ghost use mathlib.Core.Path.{_≡_};
 ghost use Prim.Native.Nat.{_≤_};
 ghost use Rattle.rules.specs.Limit;
 ghost use Rattle.call_prune.specs.Links.{namedAt, droppedLinks, NamesSlots};
+use crate::free::free_cap;
 use layout::FIRST_CHILD;
-use layout::FREE_CAPS;
 use layout::NEXT_CAP;
-use layout::OWNER;
 use layout::PARENT;
 use layout::PREV_CAP;
 use layout::slot;
@@ -30,10 +29,7 @@ pub(crate) fn drop_leaf(links: &mut [u16], j: usize)
     let p = slot(links[PARENT + j]);
     let prev = links[PREV_CAP + j];
     let next = links[NEXT_CAP + j];
-    let free = links[FREE_CAPS];
     links[named_at(p, slot(prev))] = next;
     links[PREV_CAP + slot(next)] = prev;
-    links[OWNER + j] = 0;
-    links[NEXT_CAP + j] = free;
-    links[FREE_CAPS] = j as u16;
+    free_cap(links, j);
 }

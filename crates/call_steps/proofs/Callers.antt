@@ -13,17 +13,13 @@ use Rattle.rules.specs.Slots.{find}
 use Rattle.rules.specs.Refusals.{running}
 use Rattle.rules.proofs.Tests.{all2, by-eq, refuted}
 use Rattle.layout.specs.Layout as Layout
-use Rattle.layout.specs.Rows.{field, masterOf, flagOf}
+use Rattle.layout.specs.Rows.{masterOf, flagOf}
 use Rattle.layout.specs.View.{isSet, isProcess, view}
-use Rattle.layout.proofs.Field.{field-in, field-out}
+use Rattle.layout.proofs.Field.{row, field-out}
 use Rattle.layout.proofs.Shown.{process-no, process-is, process-lives}
 use Rattle.layout.proofs.Shown.{object-here, object-none, object-shown, marks-here}
 use Rattle.call_steps.specs.Tests.{ObjectSlot, SameFrom, named, unmarked, cellIs}
 use Rattle.call_steps.proofs.Finding.{find-le, same-fewer}
-
--- the cell of an object's slot
-row : (off : ℕ) (l : List ℕ) (o : ℕ) → ObjectSlot o → field 64 off l o ≡ getD l (off + o) 0
-row off l o at = field-in 64 off l o (at .low) (at .high)
 
 -- ---- names
 
@@ -94,19 +90,6 @@ module _ (b l w : List ℕ) (o : ℕ) where
 
   pub process-zero : o ≡ 0 → false ≡ view b l w .object o .process
   process-zero z = not-process (field-out 64 Layout.MASTER l o (λ low high. omega arith))
-
-  module _ (at : ObjectSlot o) where
-    pub process-none : getD l (Layout.MASTER + o) 0 ≡ 0 → false ≡ view b l w .object o .process
-    process-none z = not-process (row Layout.MASTER l o at ∙ z)
-
-    pub process-flag-is : getD l (Layout.MASTER + o) 0 ≢ 0
-        → not (eqb (getD b (Layout.FLAG + o) 0) 0) ≡ view b l w .object o .process
-    unfolding isProcess isSet
-    process-flag-is h = sym (process-is b l w o ∙ rw (
-      row Layout.MASTER l o at,
-      row Layout.FLAG b o at,
-      ne-eqb (getD l (Layout.MASTER + o) 0) 0 h,
-    ))
 
 -- ---- marks
 

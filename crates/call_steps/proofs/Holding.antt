@@ -16,18 +16,14 @@ use Rattle.rules.specs.Password.{unlock, presented}
 use Rattle.rules.proofs.Tests.{by-eq, bool-same, both-true, all2, same-name, name-same, lives, does-live}
 use Rattle.rules.proofs.Presenting.{named, found-live, not-named, shown}
 use Rattle.layout.specs.Layout as Layout
-use Rattle.layout.specs.Rows.{field, ownerOf, masterOf, flagOf}
+use Rattle.layout.specs.Rows.{ownerOf, masterOf, flagOf}
 use Rattle.layout.specs.View.{view}
 use Rattle.layout.specs.WellFormed.{Plain}
-use Rattle.layout.proofs.Field.{field-in, field-low, field-high}
+use Rattle.layout.proofs.Field.{row, field-in, field-low, field-high}
 use Rattle.layout.proofs.Shown.{process-yes, object-lives, lock-here, cap-here, cap-object, cap-lives, cap-shown}
 use Rattle.call_steps.specs.Run.{Process, Held, Target}
 use Rattle.call_steps.specs.Tests.{CapSlot, SameFrom, held, cellIs}
 use Rattle.call_steps.proofs.Finding.{same-among}
-
--- the cell of a capability's slot
-row : (off : ℕ) (l : List ℕ) (i : ℕ) → CapSlot i → field 512 off l i ≡ getD l (off + i) 0
-row off l i at = field-in 512 off l i (at .low) (at .high)
 
 -- ---- one slot; x is its owner
 

@@ -1,32 +1,23 @@
--- The rules' tests of one slot, each by its name, and the slots and slices of which the code asks them.
+-- The rules' tests of one slot, each by its name, and the slots of which the code asks them.
 use Prim.Native.Nat.{ℕ, _+_, _≤_}
 use mathlib.Core.Path.{_≡_}
 use mathlib.Core.Bool.{Bool, not, _&&_, _||_}
 use mathlib.Core.List.{List}
 use lib.Dec.{eqb}
-use lib.ListN.{length, getD}
+use lib.ListN.{getD}
 use Rattle.rules.specs.Limit as Limit
 use Rattle.rules.specs.Slots.{find}
 use Rattle.rules.specs.Store.{Name, Password, State, sameName, samePassword}
 use Rattle.layout.specs.Layout as Layout
 use Rattle.layout.specs.Rows.{suspendedOf, waitingOf, terminatedOf}
 use Rattle.layout.specs.View.{isSet}
+use Rattle.layout.specs.Sizes.{Slot}
 
-pub record Sizes (b l : List ℕ) : Type 0 where
-  pub bytes : length b ≡ Layout.BYTES
-  pub links : length l ≡ Layout.LINKS
+abbrev pub ObjectSlot : ℕ → Type 0
+ObjectSlot = Slot Limit.objects
 
-pub record CapSizes (l w : List ℕ) : Type 0 where
-  pub links : length l ≡ Layout.LINKS
-  pub words : length w ≡ Layout.WORDS
-
-pub record ObjectSlot (o : ℕ) : Type 0 where
-  pub low : 1 ≤ o
-  pub high : o ≤ Limit.objects
-
-pub record CapSlot (i : ℕ) : Type 0 where
-  pub low : 1 ≤ i
-  pub high : i ≤ Limit.caps
+abbrev pub CapSlot : ℕ → Type 0
+CapSlot = Slot Limit.caps
 
 -- slot o holds a living object of this name
 unfoldable pub named : State → Name → ℕ → Bool

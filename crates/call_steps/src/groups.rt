@@ -1,6 +1,5 @@
 // Slots with a p1 or a serial, looked up in groups: a group is taken slot by slot only where one of it has the number.
 ghost use mathlib.Core.Path.{_≡_};
-ghost use mathlib.Core.Bool.{_||_};
 ghost use Prim.Native.Nat.{_+_, _≤_};
 ghost use lib.ListN.{length};
 ghost use Rattle.rules.specs.Limit as Limit;
@@ -16,13 +15,6 @@ use values::limit::MAX_SERIAL;
 // The slots of a group.
 const GROUP: usize = 16;
 
-// One of both holds: a function, so that no arms meet in a loop's body.
-fn either(a: bool, b: bool) -> bool
-    ensures { λ r. ⌜ r ≡ (a || b) ⌝ }
-{
-    a | b
-}
-
 // Some slot of the group after base has this p1. The loop leaves only at its end, so that the compiler can take many
 // slots at once.
 fn any_p1(words: &[u32], base: usize, p1: u32) -> bool
@@ -34,7 +26,7 @@ fn any_p1(words: &[u32], base: usize, p1: u32) -> bool
     while j < GROUP {
         j += 1;
         let k = base + j;
-        any = either(any, words[P1 + k] == p1);
+        any = any | (words[P1 + k] == p1);
     }
     any
 }
@@ -79,7 +71,7 @@ fn any_serial(links: &[u16], base: usize, serial: u16) -> bool
     while j < GROUP {
         j += 1;
         let k = base + j;
-        any = either(any, links[SERIAL + k] == serial);
+        any = any | (links[SERIAL + k] == serial);
     }
     any
 }

@@ -10,23 +10,24 @@ ghost use Rattle.rules.specs.Refusals.{running};
 ghost use Rattle.layout.specs.Layout;
 ghost use Rattle.layout.specs.Rows.{masterOf};
 ghost use Rattle.layout.specs.View.{view};
+ghost use Rattle.layout.specs.Sizes.{BytesLinks};
 ghost use Rattle.call_steps.specs.Request.{nameOf};
-ghost use Rattle.call_steps.specs.Tests.{Sizes, ObjectSlot, named, unmarked};
+ghost use Rattle.call_steps.specs.Tests.{ObjectSlot, named, unmarked};
 use crate::groups::from_serial;
 use crate::request::Name;
 use crate::widen::wide8;
 use crate::widen::wide16;
-use layout::FLAG;
 use layout::MASTER;
 use layout::SERIAL;
 use layout::SUSPENDED;
 use layout::TERMINATED;
 use layout::VOLUME;
 use layout::WAITING;
+use layout::process::is_process;
 
 // Slot o holds a living object of this name.
 fn is_named(bytes: &[u8], links: &[u16], o: usize, name: Name) -> bool
-    requires { ⌜ Sizes (now bytes) (now links) ⌝ ∗ ⌜ ObjectSlot o ⌝ }
+    requires { ⌜ BytesLinks (now bytes) (now links) ⌝ ∗ ⌜ ObjectSlot o ⌝ }
     ensures { λ r. ⌜ ((w : List ℕ) → r ≡ named (view (now (bytes .entry)) (now (links .entry)) w) (nameOf name) o) ⌝ }
 {
     if wide16(links[SERIAL + o]) == name.serial {
@@ -40,7 +41,7 @@ fn is_named(bytes: &[u8], links: &[u16], o: usize, name: Name) -> bool
 
 // The slot of the object with this name, 0 if there is none.
 pub fn find_object(bytes: &[u8], links: &[u16], name: Name) -> usize
-    requires { ⌜ Sizes (now bytes) (now links) ⌝ }
+    requires { ⌜ BytesLinks (now bytes) (now links) ⌝ }
     ensures { λ r. ⌜ ((w : List ℕ)
         → r ≡ objectNamed (view (now (bytes .entry)) (now (links .entry)) w) (nameOf name)) ⌝ }
 {
@@ -52,20 +53,6 @@ pub fn find_object(bytes: &[u8], links: &[u16], name: Name) -> usize
         o -= 1;
     }
     0
-}
-
-// Slot o holds a living process.
-pub fn is_process(bytes: &[u8], links: &[u16], o: usize) -> bool
-    requires { ⌜ Sizes (now bytes) (now links) ⌝ ∗ ⌜ o ≤ Limit.objects ⌝ }
-    ensures { λ r. ⌜ ((w : List ℕ) → r ≡ view (now (bytes .entry)) (now (links .entry)) w .object o .process) ⌝ }
-{
-    if o == 0 {
-        return false;
-    }
-    if links[MASTER + o] == 0 {
-        return false;
-    }
-    bytes[FLAG + o] != 0
 }
 
 // No mark of slot o is set.
@@ -84,7 +71,7 @@ fn is_unmarked(bytes: &[u8], o: usize) -> bool
 
 // Slot me holds a process that is not suspended, waiting or terminated.
 pub fn running(bytes: &[u8], links: &[u16], me: usize) -> bool
-    requires { ⌜ Sizes (now bytes) (now links) ⌝ ∗ ⌜ me ≤ Limit.objects ⌝ }
+    requires { ⌜ BytesLinks (now bytes) (now links) ⌝ ∗ ⌜ me ≤ Limit.objects ⌝ }
     ensures { λ r. ⌜ ((w : List ℕ) → r ≡ running (view (now (bytes .entry)) (now (links .entry)) w) me) ⌝ }
 {
     if me == 0 {
@@ -98,7 +85,7 @@ pub fn running(bytes: &[u8], links: &[u16], me: usize) -> bool
 
 // The name of the living object in slot o.
 pub fn name_at(bytes: &[u8], links: &[u16], o: usize) -> Name
-    requires { ⌜ Sizes (now bytes) (now links) ⌝ ∗ ⌜ ObjectSlot o ⌝ ∗ ⌜ masterOf (now links) o ≢ 0 ⌝ }
+    requires { ⌜ BytesLinks (now bytes) (now links) ⌝ ∗ ⌜ ObjectSlot o ⌝ ∗ ⌜ masterOf (now links) o ≢ 0 ⌝ }
     ensures { λ r. ⌜ ((w : List ℕ) → nameOf r ≡ view (now (bytes .entry)) (now (links .entry)) w .object o .name) ⌝ }
 {
     Name {

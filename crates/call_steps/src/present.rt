@@ -14,7 +14,8 @@ ghost use Rattle.layout.specs.WellFormed.{Plain};
 ghost use Rattle.call_steps.specs.Admits.{Admits};
 ghost use Rattle.call_steps.specs.Request.{capabilityOf};
 ghost use Rattle.call_steps.specs.Run.{Process, Held};
-ghost use Rattle.call_steps.specs.Tests.{CapSizes, CapSlot, held};
+ghost use Rattle.layout.specs.Sizes.{LinksWords};
+ghost use Rattle.call_steps.specs.Tests.{CapSlot, held};
 use crate::groups::last_p1;
 use crate::objects::find_object;
 use crate::request::Capability;
@@ -34,7 +35,7 @@ use values::rights::Rights;
 
 // Slot i holds a capability of object o with this password.
 fn is_held(links: &[u16], words: &[u32], i: usize, o: usize, p: [u32; 2]) -> bool
-    requires { ⌜ CapSizes (now links) (now words) ⌝ ∗ ⌜ CapSlot i ⌝ ∗ ⌜ 1 ≤ o ⌝ }
+    requires { ⌜ LinksWords (now links) (now words) ⌝ ∗ ⌜ CapSlot i ⌝ ∗ ⌜ 1 ≤ o ⌝ }
     ensures { λ r. ⌜ ((b : List ℕ) → r ≡ held (view b (now (links .entry)) (now (words .entry))) o (passwordOf p) i) ⌝ }
 {
     if slot(links[OWNER + i]) == o {
@@ -48,7 +49,7 @@ fn is_held(links: &[u16], words: &[u32], i: usize, o: usize, p: [u32; 2]) -> boo
 
 // The slot of the capability of object o with this password, 0 if there is none.
 fn find_held(links: &[u16], words: &[u32], o: usize, p: [u32; 2]) -> usize
-    requires { ⌜ CapSizes (now links) (now words) ⌝ ∗ ⌜ 1 ≤ o ⌝ }
+    requires { ⌜ LinksWords (now links) (now words) ⌝ ∗ ⌜ 1 ≤ o ⌝ }
     ensures { λ r. ⌜ ((b : List ℕ)
         → r ≡ find Limit.caps (held (view b (now (links .entry)) (now (words .entry))) o (passwordOf p))) ⌝ }
 {

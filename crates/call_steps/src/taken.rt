@@ -5,7 +5,8 @@ ghost use Prim.Native.Nat.{ℕ, _≤_};
 ghost use Rattle.rules.specs.Limit as Limit;
 ghost use Rattle.rules.specs.Slots.{some};
 ghost use Rattle.layout.specs.View.{view};
-ghost use Rattle.call_steps.specs.Tests.{CapSizes, CapSlot, taken};
+ghost use Rattle.layout.specs.Sizes.{LinksWords};
+ghost use Rattle.call_steps.specs.Tests.{CapSlot, taken};
 use crate::groups::last_p1;
 use layout::OWNER;
 use layout::P1;
@@ -14,7 +15,7 @@ use values::limit::MAX_CAPS;
 
 // Slot i holds a capability of object o with this p1.
 fn has_p1(links: &[u16], words: &[u32], i: usize, o: usize, p1: u32) -> bool
-    requires { ⌜ CapSizes (now links) (now words) ⌝ ∗ ⌜ CapSlot i ⌝ ∗ ⌜ 1 ≤ o ⌝ }
+    requires { ⌜ LinksWords (now links) (now words) ⌝ ∗ ⌜ CapSlot i ⌝ ∗ ⌜ 1 ≤ o ⌝ }
     ensures { λ r. ⌜ ((b : List ℕ) → r ≡ taken (view b (now (links .entry)) (now (words .entry))) o p1 i) ⌝ }
 {
     if slot(links[OWNER + i]) == o {
@@ -25,7 +26,7 @@ fn has_p1(links: &[u16], words: &[u32], i: usize, o: usize, p1: u32) -> bool
 
 // Some capability of object o has this p1.
 pub fn p1_taken(links: &[u16], words: &[u32], o: usize, p1: u32) -> bool
-    requires { ⌜ CapSizes (now links) (now words) ⌝ ∗ ⌜ 1 ≤ o ⌝ }
+    requires { ⌜ LinksWords (now links) (now words) ⌝ ∗ ⌜ 1 ≤ o ⌝ }
     ensures { λ r. ⌜ ((b : List ℕ)
         → r ≡ some Limit.caps (taken (view b (now (links .entry)) (now (words .entry))) o p1)) ⌝ }
 {

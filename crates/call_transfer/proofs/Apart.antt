@@ -12,8 +12,11 @@ use Rattle.layout.specs.Layout as Layout
 use Rattle.layout.specs.Rows.{masterOf, sizeOf, firstBlockOf, nextBlockOf}
 use Rattle.layout.specs.Shape.{Chain, times, Blocks}
 use Rattle.layout.proofs.Field.{field-low, field-high}
-use Rattle.call_transfer.specs.Runs.{hop, cellOf}
-use Rattle.call_transfer.proofs.Hops.{byte-block, hop-in, hop-block, hop-apart, chain-block}
+use Rattle.layout.proofs.Linking.{chain-low, chain-high}
+use Rattle.call_blocks.specs.Walk.{hop}
+use Rattle.call_blocks.proofs.Hops.{hop-in, hop-block, hop-apart}
+use Rattle.call_transfer.specs.Runs.{cellOf}
+use Rattle.call_transfer.proofs.Places.{byte-block}
 
 module _ (l : List ℕ) (B : Blocks l) where
   -- a block is once in a chain, and in one chain alone
@@ -77,6 +80,6 @@ module _ (l : List ℕ) (B : Blocks l) where
         let same : hop (nextBlockOf l) (p / 64) head ≡ k = omega arith in
         let mine : 1 ≤ times k (B .chain o) =
         rw same at (hop-in (nextBlockOf l) head (B .chain o) chain-is (p / 64) (place-in p a)) in
-        let block = chain-block (nextBlockOf l) head (B .chain o) chain-is k mine in
         chain-alone o q low high (field-low 64 Layout.MASTER l q lives) (field-high 64 Layout.MASTER l q lives) ne k
-        (block .0) (block .1) mine h
+        (chain-low 512 (nextBlockOf l) head (B .chain o) k chain-is mine)
+        (chain-high 512 (nextBlockOf l) head (B .chain o) k chain-is mine) mine h

@@ -7,7 +7,9 @@ use lib.ListN.{set}
 use Rattle.rules.specs.Store.{blocks}
 use Rattle.layout.specs.Layout as Layout
 use Rattle.layout.specs.Rows.{nextBlockOf}
-use Rattle.call_transfer.specs.Runs.{hop, cellOf, Blocked, laid, CopyAsks}
+use Rattle.call_blocks.specs.Walk.{hop, Blocked}
+use Rattle.call_blocks.proofs.Hops.{hop-last}
+use Rattle.call_transfer.specs.Runs.{cellOf, laid, CopyAsks}
 
 -- byte start + i, of n, stands in the block, if there is one more
 pub record Walking (l : List ℕ) (head start n i block : ℕ) : Type 0 where
@@ -57,7 +59,7 @@ module _ {b l : List ℕ} {head start n : ℕ} (a : CopyAsks b l head start n) w
       record { below = omega arith; block-is = λ _. rw z e }
 
   module _ {i block : ℕ} (w : Walking l head start n i block) (more : i < n) where
-    pub walk-block : (1 ≤ block) × (block ≤ 512)
+    pub walk-block : block ≤ 512
     unfolding blocks
     walk-block = rw (w .block-is more) (a .blocked ((start + i) / 64) (omega arith))
 
@@ -71,10 +73,9 @@ module _ {b l : List ℕ} {head start n : ℕ} (a : CopyAsks b l head start n) w
           rw (q, r, ← w .block-is more) (omega arith)
 
       pub walk-on : (r : ℕ) → r ≡ nextBlockOf l block → Walking l head start n (i + m) r
-      unfolding hop
       walk-on r e = record {
         below = omega arith;
         block-is = λ h.
             let q : (start + (i + m)) / 64 ≡ suc ((start + i) / 64) = omega arith in
-            rw (q, hop) (e ∙ ap (nextBlockOf l) (w .block-is more));
+            rw (q, hop-last (nextBlockOf l) ((start + i) / 64) head) (e ∙ ap (nextBlockOf l) (w .block-is more));
       }

@@ -1,6 +1,5 @@
 -- stores, and blocks
 pub mod Laid
-pub mod Hops
 pub mod Copying
 pub mod Parts
 -- an object's bytes by their cells

@@ -13,8 +13,14 @@ use Rattle.layout.specs.View.{gather}
 use Rattle.layout.specs.Shape.{Chain}
 use Rattle.layout.proofs.Field.{region-length, region-at}
 use Rattle.layout.proofs.Lengths.{bytes-length}
-use Rattle.call_transfer.specs.Runs.{hop, cellOf, bytesIn, part}
-use Rattle.call_transfer.proofs.Hops.{byte-block, hop-next, hop-block}
+use Rattle.call_blocks.specs.Walk.{hop}
+use Rattle.call_blocks.proofs.Hops.{hop-block}
+use Rattle.call_transfer.specs.Runs.{cellOf, bytesIn, part}
+
+-- the block of a byte is one of those that the size needs
+pub byte-block : {n size : ℕ} → n ≡ blocks size → (p : ℕ) → p < size → p / 64 < n
+unfolding blocks
+byte-block e p h = omega arith
 
 module _ (next : ℕ → ℕ) (store : List ℕ) (long : length store ≡ 32832) where
   block-length : (k : ℕ) → k ≤ 512 → length (take 64 (drop (k * 64) store)) ≡ 64
@@ -35,11 +41,11 @@ module _ (next : ℕ → ℕ) (store : List ℕ) (long : length store ≡ 32832)
       → getD (gather n next store (next k)) m 0 ≡ getD store (hop next (m / 64) (next k) * 64 + m % 64) 0
       → getD (gather (suc n) next store k) (64 + m) 0
       ≡ getD store (hop next ((64 + m) / 64) k * 64 + (64 + m) % 64) 0
-  unfolding gather
+  unfolding gather hop
   gather-later n k m h ih =
       let q : (64 + m) / 64 ≡ suc (m / 64) = omega arith in
       let r : (64 + m) % 64 ≡ m % 64 = omega arith in
-      rw (q, r, hop-next next (m / 64) k)
+      rw (q, r, hop)
       (ap (λ x. getD (gather (suc n) next store k) (x + m) 0) (sym (block-length k h))
       ∙ getD-append-add (take 64 (drop (k * 64) store)) (gather n next store (next k)) m 0 ∙ ih)
 

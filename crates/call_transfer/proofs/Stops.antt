@@ -1,5 +1,5 @@
 -- Refusal 7 as the code comes to it, and what the code asks of a copy where it is not met.
-use Prim.Native.Nat.{ℕ, _+_, _-_, _≤_}
+use Prim.Native.Nat.{ℕ, _+_, _≤_}
 use mathlib.Core.Path.{_≡_}
 use mathlib.Core.Bool.{true, false}
 use mathlib.Core.List.{List}
@@ -13,7 +13,7 @@ use Rattle.rules.proofs.Tests.{all2}
 use Rattle.layout.specs.Rows.{firstBlockOf, nextBlockOf, ownerOf, startOf, endOf}
 use Rattle.layout.specs.WellFormed.{Sized}
 use Rattle.call_transfer.specs.Runs.{range, window, inside, BlocksHold, CopyAsks}
-use Rattle.call_transfer.proofs.Hops.{hop-block}
+use Rattle.call_blocks.proofs.Hops.{hop-block}
 
 module _ (w : List ℕ) (k start end : ℕ) where
   pub inside-no : liesIn (range start end) (window w k) ≡ false → inside w k start end ≡ 7
@@ -40,5 +40,5 @@ copy-asks {b} {l} {w} {k} head start end n z t e h q =
       links = z .links;
       small = omega (arith, t .fits, t .size);
       blocked = λ i p. rw e (hop-block (nextBlockOf l) (firstBlockOf l (ownerOf l k)) (t .chain .0) (t .chain .1) i
-          (omega (arith, t .chain .2, t .fits)));
+          (omega (arith, t .chain .2, t .fits)) .1);
     }

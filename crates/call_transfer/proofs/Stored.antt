@@ -20,9 +20,9 @@ use Rattle.layout.proofs.Shown.{bytes-here, bytes-none}
 use Rattle.layout.proofs.Frame.{state-is, house-same, object-same, lock-same, cash-same, marks-same, box-same}
 use Rattle.layout.proofs.Frame.{cap-same, money-same, bytes-same-at}
 use Rattle.layout.proofs.Kept.{cells-kept}
+use Rattle.layout.proofs.Linking.{chain-high}
 use Rattle.call_transfer.specs.Runs.{cellOf, copiedIn, bytesIn}
 use Rattle.call_transfer.proofs.Laid.{laid-length, laid-other, laid-at}
-use Rattle.call_transfer.proofs.Hops.{chain-block}
 use Rattle.call_transfer.proofs.Places.{bytes-in-length, byte-at}
 use Rattle.call_transfer.proofs.Apart.{low, high, chain-is, chain-long, cell-high, cells-apart, other-block}
 
@@ -147,15 +147,15 @@ module _ (b l : List ℕ) (long : length b ≡ Layout.BYTES) (B : Blocks l) (o :
       → take 64 (drop (k * 64) (dataIn after)) ≡ take 64 (drop (k * 64) (dataIn b))
   unfolding region
   block-kept q lives ne k h =
-      let block = chain-block (nextBlockOf l) (firstBlockOf l q) (B .chain q) (chain-is l B q lives) k h in
+      let block = chain-high 512 (nextBlockOf l) (firstBlockOf l q) (B .chain q) k (chain-is l B q lives) h in
       region-cells 64 (k * 64) (dataIn after) (dataIn b)
       (region-length 32832 Layout.DATA after (omega (arith, after-length))
       ∙ sym (region-length 32832 Layout.DATA b (omega (arith, long))))
       (λ i p.
-      region-at 32832 Layout.DATA after (k * 64 + i) (omega (arith, block .1))
+      region-at 32832 Layout.DATA after (k * 64 + i) (omega (arith, block))
       ∙ untouched (Layout.DATA + (k * 64 + i))
       (λ j r. other-block l B o alive q lives ne k h (start + j) (omega arith) i p)
-      ∙ sym (region-at 32832 Layout.DATA b (k * 64 + i) (omega (arith, block .1))))
+      ∙ sym (region-at 32832 Layout.DATA b (k * 64 + i) (omega (arith, block))))
 
   other-kept : (w : List ℕ) (q : ℕ) → q ≢ o → view after l w .bytes q ≡ view b l w .bytes q
   other-kept w q ne = by-eq (masterOf l q) 0

@@ -1,6 +1,6 @@
 -- Where an object's bytes stand in the cells, and the own parts of read and write, exactly. The slices are those that
 -- the fee left; `k` is the slot of the capability presented.
-use Prim.Native.Nat.{ℕ, zero, suc, _+_, _*_, _-_, _/_, _%_, _≤_, _<_}
+use Prim.Native.Nat.{ℕ, zero, suc, _+_, _*_, _-_, _/_, _%_, _≤_}
 use mathlib.Core.Path.{_≡_}
 use mathlib.Core.Bool.{not}
 use mathlib.Core.List.{List, [], _∷_}
@@ -15,22 +15,14 @@ use Rattle.layout.specs.Rows.{sizeOf, firstBlockOf, ownerOf, nextBlockOf, start
 use Rattle.layout.specs.View.{gather}
 use Rattle.layout.specs.Shape.{Chain}
 use Rattle.layout.specs.WellFormed.{Sized}
+use Rattle.call_blocks.specs.Walk.{hop, Blocked}
 use Rattle.call_steps.specs.Run.{Target, Ran, over, handedOver, settled}
 
 -- ---- places
 
--- the block n steps after block k
-unfoldable pub hop : (ℕ → ℕ) → ℕ → ℕ → ℕ
-hop next zero k = k
-hop next (suc n) k = next (hop next n k)
-
--- the cell of byte p of the object whose first block is head
+-- the cell of byte p of the object whose first block is head: the block of byte p comes p / 64 blocks after it
 unfoldable pub cellOf : List ℕ → ℕ → ℕ → ℕ
 cellOf l head p = Layout.DATA + hop (nextBlockOf l) (p / Limit.block) head * Limit.block + p % Limit.block
-
--- the first n blocks from head on are there
-abbrev pub Blocked : List ℕ → ℕ → ℕ → Type 0
-Blocked l head n = (i : ℕ) → i < n → (1 ≤ hop (nextBlockOf l) i head) × (hop (nextBlockOf l) i head ≤ Limit.blocks)
 
 -- n stores to a list: of value i to place i, for each i below n, in order
 unfoldable pub laid : (place value : ℕ → ℕ) → ℕ → List ℕ → List ℕ

@@ -1,5 +1,4 @@
 // read and write, after the fee and with the capability found: bytes of an object, at most 256, across its blocks.
-pub mod chain;
 mod part;
 pub mod read;
 mod window;

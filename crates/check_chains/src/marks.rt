@@ -2,18 +2,10 @@
 // take many marks at once.
 ghost use Prim.Native.Nat.{_+_};
 ghost use mathlib.Core.Path.{_≡_};
-ghost use mathlib.Core.Bool.{_&&_};
 ghost use lib.ListN.{length};
 ghost use Rattle.layout.specs.Rows.{field};
 ghost use Rattle.layout.specs.Decides.{Decides};
 ghost use Rattle.check_chains.specs.Marking.{Full, FreeMarked, RowFits};
-
-// Both hold: a function, so that no arms meet in a loop's body.
-fn both(a: bool, b: bool) -> bool
-    ensures { λ r. ⌜ r ≡ (a && b) ⌝ }
-{
-    a & b
-}
 
 // All records 1 to n are marked.
 pub fn full(seen: &[u8], n: usize) -> bool
@@ -24,7 +16,7 @@ pub fn full(seen: &[u8], n: usize) -> bool
     let mut k = n;
     while 0 < k {
         let mark = seen[k];
-        ok = both(ok, mark != 0);
+        ok = ok & (mark != 0);
         k -= 1;
     }
     ok
@@ -40,7 +32,7 @@ pub(crate) fn free_marked(links: &[u16], off: usize, n: usize, seen: &[u8]) -> b
     while 0 < i {
         let mark = seen[i];
         let cell = links[off + i];
-        ok = both(ok, (mark == 0) != (cell == 0));
+        ok = ok & ((mark == 0) != (cell == 0));
         i -= 1;
     }
     ok

@@ -2,31 +2,28 @@
 use Prim.Native.Nat.{ℕ, _+_, _*_}
 use mathlib.Core.Path.{_≡_, sym, ap, _∙_}
 use mathlib.Core.Logic.{_≢_}
-use mathlib.Core.Bool.{true, false, not}
+use mathlib.Core.Bool.{true, false}
 use mathlib.Core.List.{List}
-use lib.Dec.{eqb, leb}
+use lib.Dec.{leb}
 use lib.ListN.{getD}
 use borrow.Author.Tests.{eq-eqb, ne-eqb}
 use Rattle.rules.specs.Store.{Cap, noCap, sumsIn, allCash, allMasters, allBoxes, moneyIn}
 use Rattle.layout.specs.Layout as Layout
-use Rattle.layout.specs.Rows.{masterOf, flagOf, countOf, lengthOf, sumOf, textIn, ownerOf, parentOf, moneyOf}
-use Rattle.layout.specs.View.{isSet, isProcess, messages, view}
+use Rattle.layout.specs.Rows.{masterOf, flagOf, countOf, lengthOf, textIn, ownerOf, parentOf, moneyOf}
+use Rattle.layout.specs.View.{isProcess, view}
+use Rattle.layout.specs.Sums.{sumsFrom}
 use Rattle.layout.specs.Fields.{TotalFits}
 use Rattle.layout.specs.Decides.{Decides}
+use Rattle.layout.proofs.Summing.{sums-are}
 use Rattle.layout.proofs.Shown.{box-here, box-none, cap-none, parent-is, money-here, money-none}
 use Rattle.check_money.specs.Amount.{ofMaster, masterMoney}
 use Rattle.layout.proofs.Deciding.{at-most}
 
--- an object that lives is a process by its flag
-pub by-flag : (b l : List ℕ) (o : ℕ) → masterOf l o ≢ 0
-    → isProcess (masterOf l) (flagOf b) o ≡ not (eqb (flagOf b o) 0)
-unfolding isProcess isSet
-by-flag b l o e = rw (ne-eqb (masterOf l o) 0 e)
-
 module _ (b l w : List ℕ) (o : ℕ) where
   pub sums-here : (n : ℕ) → n ≡ countOf b o → isProcess (masterOf l) (flagOf b) o ≡ true
-      → sumsIn (messages n (lengthOf b) (sumOf w) (textIn b) (o * 4)) ≡ sumsIn (view b l w .box o)
-  sums-here n e p = rw e (ap sumsIn (sym (box-here b l w o p)))
+      → sumsFrom w n (o * 4) ≡ sumsIn (view b l w .box o)
+  sums-here n e p =
+      rw e (sym (sums-are w (lengthOf b) (textIn b) (countOf b o) (o * 4)) ∙ ap sumsIn (sym (box-here b l w o p)))
 
   pub sums-none : isProcess (masterOf l) (flagOf b) o ≡ false → sumsIn (view b l w .box o) ≡ 0
   unfolding sumsIn

@@ -1,18 +1,12 @@
 -- The sums that make the money total, each with a bound that lets the next be added: no amount is above 4,294,967,295.
-use Prim.Native.Nat.{ℕ, _*_, _≤_}
-use mathlib.Core.Path.{_≡_}
+use Prim.Native.Nat.{ℕ, _*_}
 use mathlib.Core.Bool.{true, false}
 use mathlib.Core.List.{List}
 use lib.Dec.{eqb}
 use Rattle.rules.specs.Limit as Limit
 use Rattle.rules.specs.Store.{State, sumsIn, allCash, allMasters, allBoxes}
-use Rattle.layout.specs.Rows.{sumOf}
-use Rattle.layout.specs.View.{messages, view}
-
--- r is the sum, and is at most `most`
-pub record Amount (most sum r : ℕ) : Type 0 where
-  pub is : r ≡ sum
-  pub small : r ≤ most
+use Rattle.layout.specs.View.{view}
+use Rattle.layout.specs.Sums.{Amount}
 
 abbrev pub CashIs : List ℕ → List ℕ → List ℕ → ℕ → Type 0
 CashIs b l w = Amount (Limit.word * Limit.objects) (allCash (view b l w))
@@ -27,10 +21,6 @@ masterMoney s i = ofMaster (s .cap i .parent) (s .money i)
 
 abbrev pub MastersAre : List ℕ → List ℕ → List ℕ → ℕ → Type 0
 MastersAre b l w = Amount (Limit.word * Limit.caps) (allMasters (view b l w))
-
--- the sums of n messages from slot i on, whatever their bytes
-abbrev pub SumsAre : List ℕ → ℕ → ℕ → ℕ → Type 0
-SumsAre w n i r = (len : ℕ → ℕ) (text : List ℕ) → Amount (Limit.word * 255) (sumsIn (messages n len (sumOf w) text i)) r
 
 -- the sums in the box of object o; its count is a byte
 abbrev pub BoxIs : List ℕ → List ℕ → List ℕ → ℕ → ℕ → Type 0

@@ -2,29 +2,24 @@
 ghost use mathlib.Core.Path.{_≡_};
 ghost use mathlib.Core.List.{List};
 ghost use Prim.Native.Nat.{ℕ, _≤_};
-ghost use lib.ListN.{length};
 ghost use Rattle.rules.specs.Limit;
-ghost use Rattle.layout.specs.Layout;
-ghost use Rattle.layout.specs.Rows.{masterOf, flagOf};
-ghost use Rattle.layout.specs.View.{isProcess, view};
+ghost use Rattle.layout.specs.View.{view};
 ghost use Rattle.layout.specs.WellFormed.{Sized};
 ghost use Rattle.layout.specs.Fields.{TotalFits};
 ghost use Rattle.layout.specs.Decides.{Decides};
-ghost use Rattle.check_rows.specs.Slices.{BytesLinks, LinksWords};
-ghost use Rattle.check_money.specs.Amount.{CashIs, MastersAre, SumsAre, BoxIs, BoxesAre, masterMoney};
-use check_rows::byte;
-use check_rows::link;
-use check_rows::word;
+ghost use Rattle.layout.specs.Sizes.{LinksWords};
+ghost use Rattle.check_money.specs.Amount.{CashIs, MastersAre, BoxIs, BoxesAre, masterMoney};
 use layout::CASH;
 use layout::COUNT;
-use layout::FLAG;
 use layout::HOUSE;
-use layout::MASTER;
-use layout::MESSAGE_SLOTS;
 use layout::MONEY;
 use layout::OWNER;
 use layout::PARENT;
-use layout::SUM;
+use layout::process::is_process;
+use layout::process::sums_from;
+use layout::rows::byte;
+use layout::rows::link;
+use layout::rows::word;
 use values::cash::Cash;
 use values::limit::BOX_SLOTS;
 use values::limit::MAX_CAPS;
@@ -35,20 +30,9 @@ use values::moneyword::Moneyword;
 // Of sums in 64 bits.
 const MAX_TOTAL: u64 = MAX_WORD as u64;
 
-// Slot o holds a process.
-fn is_process(bytes: &[u8], links: &[u16], o: usize) -> bool
-    requires { ⌜ BytesLinks (now bytes) (now links) ⌝ }
-    ensures { λ r. ⌜ r ≡ isProcess (masterOf (now (links .entry))) (flagOf (now (bytes .entry))) o ⌝ }
-{
-    if link(links, MAX_OBJECTS, MASTER, o) == 0 {
-        return false;
-    }
-    byte(bytes, MAX_OBJECTS, FLAG, o) != 0
-}
-
 // The cash of slot o, 0 if it holds no process.
 fn cash_at(bytes: &[u8], links: &[u16], words: &[u32], o: usize) -> Cash
-    requires { ⌜ Sized (now bytes) (now links) (now words) ⌝ }
+    requires { ⌜ Sized (now bytes) (now links) (now words) ⌝ ∗ ⌜ o ≤ Limit.objects ⌝ }
     ensures { λ r. ⌜ r .0 ≡ view (now (bytes .entry)) (now (links .entry)) (now (words .entry)) .cash o ⌝ }
 {
     if is_process(bytes, links, o) {
@@ -82,22 +66,6 @@ pub fn money_at(links: &[u16], words: &[u32], i: usize) -> Moneyword
         return Moneyword(0);
     }
     Moneyword(word(words, MAX_CAPS, MONEY, i))
-}
-
-// The sums of n messages from slot i on.
-fn sums_from(words: &[u32], n: usize, i: usize) -> u64
-    requires { ⌜ (length (now words) ≡ Layout.WORDS) × (n ≤ 255) × (i ≤ 256) ⌝ }
-    ensures { λ r. ⌜ SumsAre (now (words .entry)) n i r ⌝ }
-{
-    let mut total: u64 = 0;
-    let mut left = n;
-    let mut at = i;
-    while 0 < left {
-        total += word(words, MESSAGE_SLOTS, SUM, at) as u64;
-        at += 1;
-        left -= 1;
-    }
-    total
 }
 
 // The sums in the box of slot o, 0 if it holds no process.

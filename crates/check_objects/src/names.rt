@@ -4,14 +4,14 @@ ghost use mathlib.Core.Path.{_≡_};
 ghost use Prim.Native.Nat.{_≤_, _<_};
 ghost use Rattle.rules.specs.Limit;
 ghost use Rattle.layout.specs.Decides.{Decides};
-ghost use Rattle.check_rows.specs.Slices.{BytesLinks};
+ghost use Rattle.layout.specs.Sizes.{BytesLinks};
 ghost use Rattle.check_rows.specs.Buckets.{NoneFrom, Chained, Buckets, Entered};
 ghost use Rattle.check_objects.specs.Names.{SameName, place, nameKeys};
-use check_rows::byte;
-use check_rows::link;
 use layout::MASTER;
 use layout::SERIAL;
 use layout::VOLUME;
+use layout::rows::byte;
+use layout::rows::link;
 use values::limit::MAX_OBJECTS;
 
 // The place in the table of a name.

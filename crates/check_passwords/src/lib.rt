@@ -4,13 +4,13 @@ ghost use mathlib.Core.Path.{_≡_};
 ghost use Prim.Native.Nat.{_≤_, _<_};
 ghost use Rattle.rules.specs.Limit;
 ghost use Rattle.layout.specs.Decides.{Decides};
-ghost use Rattle.check_rows.specs.Slices.{LinksWords};
+ghost use Rattle.layout.specs.Sizes.{LinksWords};
 ghost use Rattle.check_rows.specs.Buckets.{NoneFrom, Chained, Buckets, Entered};
 ghost use Rattle.check_passwords.specs.Passwords.{SamePassword, bucket, passwords};
-use check_rows::link;
-use check_rows::word;
 use layout::OWNER;
 use layout::P1;
+use layout::rows::link;
+use layout::rows::word;
 use values::limit::MAX_CAPS;
 
 // The place in the table of an object and a p1.

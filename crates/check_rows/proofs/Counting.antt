@@ -6,7 +6,7 @@ use mathlib.Core.List.{List}
 use native.Mathlib.Decide.{ℕ-discrete}
 use native.Mathlib.Omega.{arith}
 use Rattle.layout.specs.Rows.{field}
-use Rattle.check_rows.proofs.Cells.{at-zero, past-slots}
+use Rattle.layout.proofs.Cells.{at-zero, past-slots}
 
 -- P holds of each slot above k
 abbrev pub Above : (ℕ → Type 0) → ℕ → Type 0

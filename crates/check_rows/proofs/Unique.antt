@@ -7,7 +7,7 @@ use native.Mathlib.Decide.{decLt}
 use native.Mathlib.Omega.{arith}
 use Rattle.layout.specs.Rows.{field}
 use Rattle.check_rows.specs.Distinct.{NoneAbove}
-use Rattle.check_rows.proofs.Cells.{at-zero, past-slots}
+use Rattle.layout.proofs.Cells.{at-zero, past-slots}
 use Rattle.check_rows.proofs.Counting.{Above, above-all}
 
 -- slot j is not the same as slot i

@@ -1,4 +1,3 @@
 -- What functions over rows of slots ask for and answer.
 pub mod Distinct
 pub mod Buckets
-pub mod Slices

@@ -5,7 +5,7 @@ ghost use mathlib.Core.Path.{_≡_};
 ghost use Prim.Native.Nat.{_+_, _≤_};
 ghost use lib.ListN.{length};
 ghost use Rattle.rules.specs.Limit;
-ghost use Rattle.check_rows.specs.Slices.{LinksWords};
+ghost use Rattle.layout.specs.Sizes.{LinksWords};
 ghost use Rattle.check_rows.specs.Buckets.{Buckets};
 ghost use Rattle.check_passwords.specs.Passwords.{passwords};
 ghost use Rattle.layout.specs.Layout;
@@ -14,8 +14,8 @@ ghost use Rattle.check_scan.specs.Slots.{Slots, NextPlace};
 use check_caps::cap_fits;
 use check_money::money_at;
 use check_passwords::enter;
-use check_rows::link;
 use layout::OWNER;
+use layout::rows::link;
 use values::limit::MAX_CAPS;
 
 // Whether all capabilities fit and no two of an object have the same p1; if so, the moneywords of the masters.

@@ -12,6 +12,7 @@ use lib.ListN.{getD, set, drop, length, length-take, length-drop, length-set}
 use lib.Seq.{getD-set-other, getD-set-same, getD-take, getD-drop, take-set-lt, drop-set-add, ext-getD}
 use Rattle.rules.specs.Slots.{at}
 use Rattle.layout.specs.Rows.{field, region}
+use Rattle.layout.specs.Sizes.{Slot}
 use Rattle.rules.proofs.Slots.{at-here, at-else}
 
 -- ---- slots
@@ -43,6 +44,9 @@ at-ap f g i v j h = ap (λ x. elim (eqb j i) [ true ↦ v | false ↦ x ]) h
 pub field-in : (n off : ℕ) (l : List ℕ) (i : ℕ) → 1 ≤ i → i ≤ n → field n off l i ≡ getD l (off + i) 0
 unfolding field
 field-in n off l i p q = rw (le-leb 1 i p, le-leb i n q, field)
+
+pub row : {n : ℕ} (off : ℕ) (l : List ℕ) (i : ℕ) → Slot n i → field n off l i ≡ getD l (off + i) 0
+row {n} off l i s = field-in n off l i (s .low) (s .high)
 
 pub field-out : (n off : ℕ) (l : List ℕ) (i : ℕ) → (1 ≤ i → i ≤ n → ⊥) → field n off l i ≡ 0
 unfolding field

@@ -2,6 +2,7 @@
 -- the rows, and stores to them
 pub mod Counts
 pub mod Field
+pub mod Cells
 pub mod Puts
 pub mod Heads
 pub mod Zeros
@@ -11,6 +12,7 @@ pub mod Shown
 pub mod Frame
 pub mod Kept
 pub mod Lengths
+pub mod Summing
 -- where links change
 pub mod Linking
 pub mod Joining

@@ -46,6 +46,11 @@ module _ (master flag : ℕ → ℕ) (o : ℕ) where
   unfolding isProcess
   process-no z = rw (set-no (master o) z)
 
+  -- an object that lives is a process by its flag
+  pub by-flag : master o ≢ 0 → isProcess master flag o ≡ isSet (flag o)
+  unfolding isProcess
+  by-flag p = rw (set-yes (master o) p)
+
   pub data-no : flag o ≡ 0 → isProcess master flag o ≡ false
   unfolding isProcess
   data-no z = rw (set-no (flag o) z) (and-false (isSet (master o)))

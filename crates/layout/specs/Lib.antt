@@ -6,3 +6,5 @@ pub mod Shape
 pub mod WellFormed
 pub mod Fields
 pub mod Decides
+pub mod Sizes
+pub mod Sums

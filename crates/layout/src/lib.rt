@@ -3,6 +3,9 @@
 // capabilities and blocks 1 to 512. Message m, 0 to 3, of object o has slot 4 o + m. docs/LAYOUT.md has the table.
 ghost use mathlib.Core.Path.{_≡_};
 
+pub mod process;
+pub mod rows;
+
 // The slot that a link names.
 pub fn slot(link: u16) -> usize
     ensures { λ r. ⌜ r ≡ link ⌝ }

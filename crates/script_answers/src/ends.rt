@@ -4,7 +4,7 @@ ghost use mathlib.Core.List.{List, [], _∷_};
 ghost use lib.ListN.{length};
 ghost use Rattle.rules.specs.Code as Code;
 ghost use Rattle.layout.specs.View.{view};
-ghost use Rattle.check_rows.specs.Slices.{LinksWords};
+ghost use Rattle.layout.specs.Sizes.{LinksWords};
 ghost use Rattle.check_money.specs.Amount.{MastersAre};
 ghost use Rattle.script_text.specs.Numeral.{lineOf};
 ghost use Rattle.script_text.specs.Pasted.{Put};

@@ -1,7 +1,6 @@
 -- `box_at` is what the slot's box holds in the rules.
 use native.Mathlib.Omega.{arith}
 use mathlib.Core.Path.{sym, _∙_}
-use Rattle.layout.specs.Rows.{lengthOf, textIn}
 use Rattle.check_money.proofs.Living.{sums-here, sums-none}
 use borrow.Author.Needs.{needs}
 use Rattle.check_money.proofs.box_at.Statement.{statement}
@@ -24,8 +23,7 @@ sums-from-requires c κs = search needs
 
 returns : tie.Need-returns
 returns c = let p = sym (c .before .before .before .is-process .ensures) ∙ c .before .before .if1 .taken in
-    let b = c .before .before .before .before .before .before .before .args .bytes .now in
-    let s = c .sums-from .ensures (lengthOf b) (textIn b) in
+    let s = c .sums-from .ensures in
     record { is = s .is ∙ sums-here _ _ _ _ _ (c .before .byte .ensures) p; small = s .small }
 
 returns-2 : tie.Need-returns-2

@@ -2,7 +2,8 @@
 use mathlib.Core.Path.{sym}
 use Rattle.values.specs.Words.{passwordOf, windowOf}
 use Rattle.layout.specs.Layout as Layout
-use Rattle.call_derive.proofs.Stops.{row, child-cells}
+use Rattle.layout.proofs.Field.{row}
+use Rattle.call_derive.proofs.Stops.{child-cells}
 use borrow.Author.Needs.{needs}
 use Rattle.call_derive.proofs.child.child_of.Statement.{statement}
 use Rattle.call_derive.proofs.child.child_of.Tie as tie

@@ -1,14 +1,12 @@
 -- `send` is stopped by 8, 9 or 14; or it places the message and takes the sum from the caller's cash.
 use Prim.Native.Nat.{_+_, _≤_}
 use mathlib.Core.Path.{refl, sym, _∙_}
-use mathlib.Core.List.{[]}
 use native.Mathlib.Omega.{arith}
 use lib.ListN.{getD, length-set}
 use borrow.Author.Tests.{le-leb, lt-leb}
 use borrow.Author.Needs.{needs}
 use Rattle.rules.specs.Refusals.{_when_, first}
 use Rattle.layout.specs.Layout as Layout
-use Rattle.layout.proofs.Shown.{process-is}
 use Rattle.call_steps.proofs.Replying.{refused-is, done-is}
 use Rattle.call_mail.specs.Runs.{messageSlot}
 use Rattle.call_mail.proofs.Stops.{placed-bytes-length, placed-words-length, Sending, slot-of, send-met, send-done}
@@ -21,15 +19,12 @@ entry c = c .before .before .before .before .before .before .before
 sending : (c : tie.After-is-process)
     → Sending (entry c .args .bytes .now) (entry c .args .links .now) (entry c .args .me) (entry c .args .k)
     (c .before .before .target .result) (c .is-process .result)
-sending c =
-    let a = entry c .args in
-    record {
-      caller = entry c .pre .caller;
-      target = entry c .pre .target;
-      found = c .before .before .target .ensures;
-      process = c .is-process .ensures []
-          ∙ process-is (a .bytes .now) (a .links .now) [] (c .before .before .target .result);
-    }
+sending c = record {
+  caller = entry c .pre .caller;
+  target = entry c .pre .target;
+  found = c .before .before .target .ensures;
+  process = c .is-process .ensures;
+}
 
 -- the test of is_process, where 9 is behind, and where 14 is too
 abbrev tested : tie.Else2 → tie.After-is-process

@@ -1,23 +1,23 @@
 -- `drop_leaf` stores what `droppedLinks` says.
 use Prim.Native.Nat.{_+_}
 use Rattle.layout.specs.Layout as Layout
-use mathlib.Core.Path.{refl}
+use mathlib.Core.Path.{refl, ap, _∙_}
 use native.Mathlib.Omega.{arith}
-use lib.ListN.{getD, length-set}
-use Rattle.call_prune.proofs.Stores.{Read, read-high, cell-high, dropped-is}
+use lib.ListN.{length, getD, length-set}
+use Rattle.call_prune.proofs.Stores.{Read, read-high, cell-high, dropped-length, dropped-is}
 use borrow.Author.Needs.{needs}
 use Rattle.call_prune.proofs.leaf.drop_leaf.Statement.{statement}
 use Rattle.call_prune.proofs.leaf.drop_leaf.Tie as tie
 
 -- the links that the code read
 abbrev entry : tie.After-slot2 → tie.Start
-entry c = c .before .before .before .before .before .before .before
+entry c = c .before .before .before .before .before .before
 
 read : (c : tie.After-slot2)
-    → Read (entry c .pre) (c .before .before .before .before .slot .result) (c .slot2 .result)
+    → Read (entry c .pre) (c .before .before .before .slot .result) (c .slot2 .result)
     (getD (entry c .args .links .now) (Layout.«NEXT_CAP» + entry c .args .j) 0)
 read c = record {
-  parent-read = c .before .before .before .before .slot .ensures;
+  parent-read = c .before .before .before .slot .ensures;
   prev-read = c .slot2 .ensures;
   next-read = refl;
 }
@@ -52,9 +52,6 @@ mul-next c = search needs
 slice-read-next : tie.Need-slice-read-next
 slice-read-next c = search needs
 
-slice-read-free : tie.Need-slice-read-free
-slice-read-free c = search needs
-
 slot-requires-2 : tie.Need-slot-requires-2
 slot-requires-2 c κs = search needs
 
@@ -88,41 +85,21 @@ slice-write-links-2 c =
     let h = read-high (entry (c .before .before) .pre) (read (c .before .before)) in
     simp length-set (omega (arith, h .2, c .slot3 .ensures, entry (c .before .before) .pre .links))
 
-add-links-2 : tie.Need-add-links-2
-add-links-2 c = search needs
-
-mul-links-3 : tie.Need-mul-links-3
-mul-links-3 c = search needs
-
-slice-write-links-3 : tie.Need-slice-write-links-3
-slice-write-links-3 c = simp length-set (omega arith)
-
-add-links-3 : tie.Need-add-links-3
-add-links-3 c = search needs
-
-mul-links-4 : tie.Need-mul-links-4
-mul-links-4 c = search needs
-
-slice-write-links-4 : tie.Need-slice-write-links-4
-slice-write-links-4 c = simp length-set (omega arith)
-
-cast-links : tie.Need-cast-links
-cast-links c = search needs
-
-slice-write-links-5 : tie.Need-slice-write-links-5
-slice-write-links-5 c = simp length-set (omega arith)
-
-same-length : tie.Need-same-length
-same-length c = search needs
+free-cap-requires : tie.Need-free-cap-requires
+free-cap-requires c κs = search needs
 
 returns : tie.Need-returns
 returns c =
-    let at = c .before .before in
-    dropped-is (entry at .pre) (record {
+    let out : tie.After-slot3 = c .before .before .before .before in
+    let at = out .before .before in
+    c .before .before .free-cap .ensures ∙ dropped-is (entry at .pre) (record {
       parent-read = read at .parent-read;
       prev-read = read at .prev-read;
-      next-read = c .slot3 .ensures;
-    }) _ (c .before .named-at .ensures)
+      next-read = out .slot3 .ensures;
+    }) _ (out .before .named-at .ensures)
+
+same-length : tie.Need-same-length
+same-length c = ap length (returns c) ∙ dropped-length _ _
 
 pub drop-leaf-spec : {M : Type 1} → statement M
 drop-leaf-spec =
@@ -138,7 +115,6 @@ drop-leaf-spec =
     add-next
     mul-next
     slice-read-next
-    slice-read-free
     slot-requires-2
     named-at-requires
     mul-links
@@ -147,13 +123,6 @@ drop-leaf-spec =
     add-links
     mul-links-2
     slice-write-links-2
-    add-links-2
-    mul-links-3
-    slice-write-links-3
-    add-links-3
-    mul-links-4
-    slice-write-links-4
-    cast-links
-    slice-write-links-5
+    free-cap-requires
     same-length
     returns)

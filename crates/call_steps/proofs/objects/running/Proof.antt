@@ -5,6 +5,7 @@ use mathlib.Core.Path.{sym, _∙_}
 use mathlib.Core.List.{List}
 use Rattle.rules.specs.Store.{State}
 use Rattle.layout.specs.View.{view}
+use Rattle.layout.proofs.Shown.{process-is}
 use Rattle.call_steps.proofs.Callers.{process-zero, running-data, running-marks}
 use Rattle.call_steps.proofs.objects.running.Statement.{statement}
 use Rattle.call_steps.proofs.objects.running.Tie as tie
@@ -30,13 +31,14 @@ returns-2 c w =
     let s = p .before .before .before .before in
     c .is-unmarked .ensures
     ∙ running-marks (s .args .bytes .now) (s .args .links .now) w (s .args .me)
-    (sym (p .is-process .ensures w) ∙ c .before .if2 .taken)
+    (process-is _ _ w (s .args .me) ∙ sym (p .is-process .ensures) ∙ c .before .if2 .taken)
 
 returns-3 : tie.Need-returns-3
 returns-3 c w =
     let p = c .before in
     let s = p .before .before .before .before in
-    running-data (state s w) (s .args .me) (sym (c .if2 .left) ∙ p .is-process .ensures w)
+    running-data (state s w) (s .args .me)
+    (sym (c .if2 .left) ∙ p .is-process .ensures ∙ sym (process-is _ _ w (s .args .me)))
 
 pub running-spec : {M : Type 1} → statement M
 running-spec =

@@ -19,7 +19,7 @@ abbrev μ-loop : tie.MeasureT-loop
 μ-loop bytes₀ links text head start block₀ i₀ bytes block i = length text - i
 
 -- the block is there
-here : (c : tie.In-loop Inv-loop μ-loop) → (1 ≤ c .before .loop .block) × (c .before .loop .block ≤ 512)
+here : (c : tie.In-loop Inv-loop μ-loop) → c .before .loop .block ≤ 512
 here c =
     let s = c .before .before .before .before .before .before in
     walk-block (s .pre) (c .before .loop .inv .0) (c .loop-test .taken)
@@ -62,8 +62,7 @@ copy-part-requires c κs =
 
 next-block-requires : tie.Need-next-block-requires Inv-loop μ-loop
 next-block-requires c κs =
-    let at = here (c .before .before .before .before .before) in
-    (c .before .before .before .before .before .before .before .before .before .before .before .pre .links, at .0, at .1)
+    (c .before .before .before .before .before .before .before .before .before .before .before .pre .links, here (c .before .before .before .before .before))
 
 add-i : tie.Need-add-i Inv-loop μ-loop
 add-i c = omega (arith, c .before .before .before .before .before .part-of .ensures, c .before .before .before .before .before .before .before .before .before .before .before .before .pre .small)

@@ -1,9 +1,9 @@
 -- `free_marked` meets its contract: its answer says whether of the records above i, just the free ones are marked.
-use mathlib.Core.Path.{_≡_, sym, ap, ap₂, _∙_}
+use mathlib.Core.Path.{_≡_, refl, sym, ap, ap₂, _∙_}
 use mathlib.Core.Logic.{_≢_}
-use mathlib.Core.Bool.{Bool, true, false, not, Bool·beq, false≢true}
+use mathlib.Core.Bool.{true, false, not, Bool·beq, false≢true}
 use mathlib.Core.List.{List}
-use Prim.Native.Nat.{ℕ, _+_}
+use Prim.Native.Nat.{ℕ}
 use native.Mathlib.Decide.{ℕ-discrete}
 use lib.Dec.{eqb}
 use borrow.Author.Tests.{eq-eqb, ne-eqb, not-true}
@@ -57,10 +57,10 @@ loop-holds c = down-start _ _
 
 loop-again : tie.Need-loop-again Inv-loop μ-loop
 loop-again c =
-    let here = c .before .before .before in
+    let here = c .before .before in
     let now = here .before .loop .inv in
     down-on now (here .loop-test .taken)
-    (free-decided _ _ _ _ (field-in _ _ _ _ (here .loop-test .taken) (now .high))) (c .both .ensures)
+    (free-decided _ _ _ _ (field-in _ _ _ _ (here .loop-test .taken) (now .high))) refl
 
 returns : tie.Need-returns Inv-loop μ-loop
 returns c = down-end (c .before .loop .inv) (omega arith)
@@ -70,4 +70,4 @@ free-marked-spec =
     tie.close
     (tie.spec Inv-loop μ-loop loop-holds
     (λ c. omega arith) (λ c. omega arith) (λ c. omega arith) (λ c. omega arith)
-    (λ c κs. tt) (λ c. omega arith) (λ c. omega arith) loop-again returns)
+    (λ c. omega arith) (λ c. omega arith) loop-again returns)

@@ -1,4 +1,5 @@
 -- `full` meets its contract: its answer says whether the records above k are marked.
+use mathlib.Core.Path.{refl}
 use mathlib.Core.Logic.{_≢_}
 use native.Mathlib.Omega.{arith}
 use lib.ListN.{getD}
@@ -19,9 +20,6 @@ loop-holds c = down-start _ _
 shared-slice-read-mark : tie.Need-shared-slice-read-mark Inv-loop μ-loop
 shared-slice-read-mark c = omega arith
 
-both-requires : tie.Need-both-requires Inv-loop μ-loop
-both-requires c κs = tt
-
 sub-k : tie.Need-sub-k Inv-loop μ-loop
 sub-k c = omega arith
 
@@ -30,8 +28,8 @@ loop-less c = omega arith
 
 loop-again : tie.Need-loop-again Inv-loop μ-loop
 loop-again c =
-    let here = c .before .before in
-    down-on (here .before .loop .inv) (here .loop-test .taken) (differs _ _) (c .both .ensures)
+    let here = c .before in
+    down-on (here .before .loop .inv) (here .loop-test .taken) (differs _ _) refl
 
 returns : tie.Need-returns Inv-loop μ-loop
 returns c = down-end (c .before .loop .inv) (omega arith)
@@ -44,7 +42,6 @@ full-spec =
     μ-loop
     loop-holds
     shared-slice-read-mark
-    both-requires
     sub-k
     loop-less
     loop-again

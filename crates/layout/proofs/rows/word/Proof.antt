@@ -1,11 +1,11 @@
--- `link` reads a field.
+-- `word` reads a field.
 use borrow.Author.Needs.{needs}
 use mathlib.Core.Path.{sym}
 use native.Mathlib.Omega.{arith}
 use Rattle.layout.proofs.Field.{field-in}
-use Rattle.check_rows.proofs.Cells.{at-zero, past-slots}
-use Rattle.check_rows.proofs.link.Statement.{statement}
-use Rattle.check_rows.proofs.link.Tie as tie
+use Rattle.layout.proofs.Cells.{at-zero, past-slots}
+use Rattle.layout.proofs.rows.word.Statement.{statement}
+use Rattle.layout.proofs.rows.word.Tie as tie
 
 returns : tie.Need-returns
 returns c = sym (at-zero _ _ _ _ (c .if1 .taken))
@@ -25,6 +25,6 @@ shared-slice-read-result c = search needs
 returns-3 : tie.Need-returns-3
 returns-3 c = sym (field-in _ _ _ _ (omega arith) (omega arith))
 
-pub link-spec : {M : Type 1} → statement M
-link-spec =
+pub word-spec : {M : Type 1} → statement M
+word-spec =
     tie.close (tie.spec returns returns-2 add-result mul-result shared-slice-read-result returns-3)

@@ -2,10 +2,10 @@
 use mathlib.Core.Path.{refl}
 use native.Mathlib.Omega.{arith}
 use lib.ListN.{length-set}
-use Rattle.call_ending.specs.Links.{freedCap}
+use Rattle.call_prune.specs.Links.{freedCap}
 use borrow.Author.Needs.{needs}
-use Rattle.call_ending.proofs.free.free_cap.Statement.{statement}
-use Rattle.call_ending.proofs.free.free_cap.Tie as tie
+use Rattle.call_prune.proofs.free.free_cap.Statement.{statement}
+use Rattle.call_prune.proofs.free.free_cap.Tie as tie
 
 slice-read-free : tie.Need-slice-read-free
 slice-read-free c = search needs
