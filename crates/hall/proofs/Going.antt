@@ -21,7 +21,7 @@ use Rattle.hall.specs.Runs.{BUFFER, TURNS, Placed, Roomy, Stands, FeedsA
 
 -- ---- where all that was pending is handed over
 
-pub room-made : {out : List ℕ} {x : Stand} (y : Stand) → Placed out x → y .run ≡ x .run → y .at ≡ 0 → Roomy out x y
+pub room-made : {out : List ℕ} {x : Stand} (y : Stand) → Placed out x → runOf (y .run) ≡ runOf (x .run) → y .run .at ≡ 0 → Roomy out x y
 room-made {out} {x} y a e p = record {
   room = omega (arith, a .size, p);
   run = e;
@@ -107,16 +107,13 @@ rest-all window from = take-all (length window - from) (drop from window) (omega
 
 module _ {s₀ s : Store} {held₀ out₀ held ns ts bs ss window out : List ℕ} {x₀ x y : Stand} {from : ℕ}
     (g : Going s₀ held₀ out₀ s held ns ts bs ss window out x₀ x from) (r : Roomy out x y) where
-  same : runOf (y .run) ≡ runOf (x .run)
-  same = ap runOf (r .run)
-
   stood : Contract.Stands s held (runOf (y .run))
-  stood = subst (Contract.Stands s held) (sym same) (g .stands)
+  stood = subst (Contract.Stands s held) (sym (r .run)) (g .stands)
 
   numbered : y .run .number ≡ x .run .number
-  numbered = ap (λ (q : Run). q .number) (r .run)
+  numbered = ap (λ (q : Contract.Run). q .number) (r .run)
 
-  pub feed-asked : FeedAsks s held (runOf (y .run)) (rest window from) out (y .at)
+  pub feed-asked : FeedAsks s held (runOf (y .run)) (rest window from) out (y .run .at)
   feed-asked = record {
     stands = stood;
     place = omega (arith, r .room);
@@ -124,7 +121,7 @@ module _ {s₀ s : Store} {held₀ out₀ held ns ts bs ss window out : List ℕ
   }
 
   module _ {s′ : Store} {held′ out′ : List ℕ} {q : Fed}
-      (f : Feeding s held (runOf (y .run)) (rest window from) out (y .at) s′ held′ out′ (fedOf q)) (inside : from < length window) where
+      (f : Feeding s held (runOf (y .run)) (rest window from) out (y .run .at) s′ held′ out′ (fedOf q)) (inside : from < length window) where
     pub taken-some : 1 ≤ q .taken
     taken-some = feeds-some (f .feeds) (omega (arith, rest-length window from)) (omega (arith, r .room))
 
@@ -132,15 +129,15 @@ module _ {s₀ s : Store} {held₀ out₀ held ns ts bs ss window out : List ℕ
     taken-within = omega (arith, feeds-within (f .feeds), rest-length window from)
 
     -- the same feed, from where the run stood before room was made, of what is left of the window
-    fed : Feeds stores (length out - y .at) (stage x s) (line x held) (drop from window) (q .taken) (f .text)
+    fed : Feeds stores (length out - y .run .at) (stage x s) (line x held) (drop from window) (q .taken) (f .text)
         (stageOf (runOf (q .run)) s′) (heldIn (runOf (q .run)) held′)
-    fed = subst (λ (w : List ℕ). Feeds stores (length out - y .at) (stage x s) (line x held) w (q .taken) (f .text)
+    fed = subst (λ (w : List ℕ). Feeds stores (length out - y .run .at) (stage x s) (line x held) w (q .taken) (f .text)
         (stageOf (runOf (q .run)) s′) (heldIn (runOf (q .run)) held′)) (rest-all window from)
-        (subst (λ (t : Contract.Run). Feeds stores (length out - y .at) (stageOf t s) (heldIn t held) (rest window from) (q .taken) (f .text)
-        (stageOf (runOf (q .run)) s′) (heldIn (runOf (q .run)) held′)) same (f .feeds))
+        (subst (λ (t : Contract.Run). Feeds stores (length out - y .run .at) (stageOf t s) (heldIn t held) (rest window from) (q .taken) (f .text)
+        (stageOf (runOf (q .run)) s′) (heldIn (runOf (q .run)) held′)) (r .run) (f .feeds))
 
-    front-on : (z : Stand) → z .run ≡ q .run → z .at ≡ q .at → Front s₀ held₀ out₀ x₀ s′ held′ window out′ z (from + q .taken)
-    front-on z e p = record {
+    front-on : (z : Stand) → z .run ≡ q .run → Front s₀ held₀ out₀ x₀ s′ held′ window out′ z (from + q .taken)
+    front-on z e = record {
       said = g .front .said ++ f .text;
       written = g .front .written ++ r .written;
       comes = λ {text} {l′} {g′} d.
@@ -150,20 +147,20 @@ module _ {s₀ s : Store} {held₀ out₀ held ns ts bs ss window out : List ℕ
           (sym (drop-drop (q .taken) from window))
           (subst (λ (t : Run). Comes (stageOf (runOf t) s′) (heldIn (runOf t) held′) (drop (from + q .taken) window) text g′ l′) e d))));
       kept = parts-join (pending x₀ out₀) (g .front .said) (g .front .written) (pending x out) (r .written) (pending y out) (f .text) (pending z out′)
-          (g .front .kept) (r .kept) (ap (λ (k : ℕ). take k out′) p ∙ wrote-pending (f .wrote) (omega (arith, r .room)));
+          (g .front .kept) (r .kept) (ap (λ (t : Run). take (t .at) out′) e ∙ wrote-pending (f .wrote) (omega (arith, r .room)));
     }
 
-    pub going-on : {ns′ ts′ bs′ ss′ : List ℕ} (z : Stand) → z .run ≡ q .run → z .at ≡ q .at → length out′ ≡ length out → Working ns′ ts′ bs′ ss′
+    pub going-on : {ns′ ts′ bs′ ss′ : List ℕ} (z : Stand) → z .run ≡ q .run → length out′ ≡ length out → Working ns′ ts′ bs′ ss′
         → Going s₀ held₀ out₀ s′ held′ ns′ ts′ bs′ ss′ window out′ x₀ z (from + q .taken)
-    going-on z e p long w = record {
+    going-on z e long w = record {
       stands = subst (Contract.Stands s′ held′) (sym (ap runOf e)) (f .stands);
       working = w;
-      output = record { size = long ∙ g .output .size; placed = omega (arith, p, f .place, long, g .output .size) };
+      output = record { size = long ∙ g .output .size; placed = omega (arith, ap (λ (t : Run). t .at) e, f .place, long, g .output .size) };
       number = omega (arith, ap (λ (t : Run). t .number) e, f .number, numbered, g .number);
       within = taken-within;
       few = g .few;
       counted = g .counted;
-      front = front-on z e p;
+      front = front-on z e;
     }
 
 pub going-done : {s₀ s : Store} {held₀ out₀ held ns ts bs ss window out : List ℕ} {x₀ x : Stand} {from : ℕ}
@@ -195,10 +192,10 @@ turned-end f e = record { fed = f; got = 0; passed = λ t. absurd (true≢false 
 -- ---- the end of the input
 
 pub finish-asked : {s : Store} {held ns ts bs ss out : List ℕ} {x y : Stand} → Stands s held ns ts bs ss out x → Roomy out x y
-    → FinishAsks s held (runOf (y .run)) out (y .at)
+    → FinishAsks s held (runOf (y .run)) out (y .run .at)
 finish-asked {s} {held} a r = record {
-  stands = subst (Contract.Stands s held) (sym (ap runOf (r .run))) (a .stands);
-  counted = omega (arith, ap (λ (t : Run). t .number) (r .run), a .counted);
+  stands = subst (Contract.Stands s held) (sym (r .run)) (a .stands);
+  counted = omega (arith, ap (λ (t : Contract.Run). t .number) (r .run), a .counted);
   room = r .room;
 }
 
@@ -212,7 +209,7 @@ pub record Turning (s : Store) (held ns ts bs ss input out : List ℕ) (x : Stan
   pub counted : x .run .number + BUFFER * turns ≤ LAST
 
 pub turning-start : {s : Store} {held ns ts bs ss input out : List ℕ} (x : Stand) → Begins s held ns ts bs ss input out
-    → x .run .number ≡ 0 → x .run .count ≡ 0 → x .at ≡ 0 → Turning s held ns ts bs ss input out x TURNS
+    → x .run .number ≡ 0 → x .run .count ≡ 0 → x .run .at ≡ 0 → Turning s held ns ts bs ss input out x TURNS
 turning-start x a n c p = record {
   stands = record { formed = a .formed; size = a .size; few = omega (arith, c) };
   working = a .working;

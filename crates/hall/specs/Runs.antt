@@ -24,16 +24,16 @@ TURNS = 140737488355328
 
 pub record Placed (out : List ℕ) (x : Stand) : Type 0 where
   pub size : length out ≡ BUFFER
-  pub placed : x .at ≤ BUFFER
+  pub placed : x .run .at ≤ BUFFER
 
 -- what is in the buffer and was not handed over to be written
 abbrev pub pending : Stand → List ℕ → List ℕ
-pending x out = take (x .at) out
+pending x out = take (x .run .at) out
 
 -- there is room for an answer and the end, and the run stands where it stood; `written` was handed over, and the rest is pending still
 pub record Roomy (out : List ℕ) (x y : Stand) : Type 0 where
-  pub room : y .at + ROOM ≤ length out
-  pub run : y .run ≡ x .run
+  pub room : y .run .at + ROOM ≤ length out
+  pub run : runOf (y .run) ≡ runOf (x .run)
   pub written : List ℕ
   pub kept : pending x out ≡ written ++ pending y out
 

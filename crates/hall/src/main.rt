@@ -22,8 +22,6 @@ const TURNS: u64 = 140737488355328;
 // Between two turns.
 struct Stand {
     pub run: Run,
-    // So many places of the output buffer are taken.
-    pub at: usize,
     // More is to be read: the input has not ended, and no write failed.
     pub going: bool,
 }
@@ -33,14 +31,19 @@ fn make_room(out: &[u8], stand: Stand) -> Stand
     requires { ⌜ Placed (now out) stand ⌝ }
     ensures { λ r. ⌜ Roomy (now (out .entry)) stand r ⌝ }
 {
-    let at = stand.at;
+    let run = stand.run;
+    let at = run.at;
     if at + ROOM <= out.len() {
         return stand;
     }
-    let run = stand.run;
-    Stand {
-        run,
+    let emptied = Run {
+        number: run.number,
+        bad: run.bad,
+        count: run.count,
         at: 0,
+    };
+    Stand {
+        run: emptied,
         going: io::write_all(1, &out[..at]),
     }
 }
@@ -81,13 +84,11 @@ fn feed_all(
             held,
             &window[from..],
             out,
-            ready.at,
             run,
         );
         let next = fed.run;
         stand = Stand {
             run: next,
-            at: fed.at,
             going: ready.going,
         };
         from += fed.taken;
@@ -124,7 +125,6 @@ fn end(
             scratch,
             held,
             out,
-            ready.at,
             run,
         );
         io::write_all(1, &out[..at]);
@@ -181,11 +181,7 @@ fn turn(
         stand,
     );
     let run = stand.run;
-    Stand {
-        run,
-        at: 0,
-        going: false,
-    }
+    Stand { run, going: false }
 }
 
 // Turn after turn; nothing says that the input ends, so the turns are counted down.
@@ -208,10 +204,10 @@ fn play_all(
         number: 0,
         bad: false,
         count: 0,
+        at: 0,
     };
     let mut stand = Stand {
         run: begun,
-        at: 0,
         going: true,
     };
     let mut turns = TURNS;

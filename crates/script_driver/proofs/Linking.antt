@@ -23,14 +23,13 @@ use Rattle.script_play.specs.Starts.{Starts}
 use Rattle.script_driver.specs.Turns.{opening, closed, playing, At, Line, Closes, absent, refused, totals, HELD, cut, Feeds, ANSWER, Ends, none, last}
 use Rattle.script_driver.specs.Stores.{Store, Formed, stores}
 use Rattle.script_driver.specs.Contract as Contract
-use Rattle.script_driver.specs.Contract.{LAST, stageBy, Stands, Feeding}
+use Rattle.script_driver.specs.Contract.{LAST, stageBy, stageOf, Stands, Feeding}
 use Rattle.script_driver.proofs.Cutting.{cut-more, cut-none, cut-twice, means-cut}
 use Rattle.script_driver.proofs.Bridging.{first-line, closed-line, later-line}
 use Rattle.script_driver.proofs.Looping.{Reached, reached-none, reached-line, reached-all, reached-full, reached-held, line-whole}
 use Rattle.script_driver.specs.declared.Run.{Run}
 use Rattle.script_driver.specs.declared.Fed.{Fed}
-use Rattle.script_driver.specs.declared.line.Next.{Next}
-use Rattle.script_driver.specs.Parts.{store, runOf, fedOf, Holds, OneLine, EndedLine, EndAsks, EndPut}
+use Rattle.script_driver.specs.Parts.{store, runOf, fedOf, Holds, FirstLine, OneLine, EndedLine, EndAsks, EndPut}
 
 -- ---- stages
 
@@ -56,57 +55,67 @@ moved-line {g} {g′} {m} {m′} {l} {out} e f d =
 
 -- ---- a line
 
-pub one-bad : {s : Store} {line out : List ℕ} {at number : ℕ} {bad : Bool} → bad ≡ true → Formed s
-    → OneLine s line out at number bad s out (record { number = number; bad = true; at = at })
-one-bad {s} {line} {out} {at} {number} {bad} e f = record {
+pub one-bad : {s : Store} {line out : List ℕ} {run : Run} → run .bad ≡ true → Formed s
+    → OneLine s line out run s out (record { number = run .number; bad = true; count = 0; at = run .at })
+one-bad {s} {line} {out} {run} e f = record {
   text = [];
-  is = moved-line (at-closed number bad s e) (at-closed number true s refl) (closed-line line);
-  wrote = wrote-none out at;
+  is = moved-line (at-closed (run .number) (run .bad) s e) (at-closed (run .number) true s refl) (closed-line line);
+  wrote = wrote-none out (run .at);
   few = omega arith;
   formed = f;
   counted = omega arith;
+  none = refl;
 }
 
-pub one-first : {b l w b′ l′ w′ line out : List ℕ} {at number : ℕ} {bad r : Bool} → bad ≡ false → number ≡ 0
-    → Starts line b l w b′ l′ w′ r → r ≡ true
-    → OneLine (store b l w) line out at number bad (store b′ l′ w′) out (record { number = 1; bad = false; at = at })
-one-first {b} {l} {w} {b′} {l′} {w′} {line} {out} {at} {number} {bad} {r} e z h y = record {
-  text = [];
-  is = moved-line (at-opening number bad (store b l w) e z) (ap (λ x. stageBy 1 (not x) (store b′ l′ w′)) (sym y)) (first-line h);
-  wrote = wrote-none out at;
-  few = omega arith;
+pub first-good : {b l w b′ l′ w′ line : List ℕ} {at : ℕ} {r : Bool} → Starts line b l w b′ l′ w′ r → r ≡ true
+    → FirstLine line at (store b′ l′ w′) (record { number = 1; bad = false; count = 0; at = at })
+first-good {b′ = b′} {l′} {w′} h y = record {
+  is = moved-line refl (ap (λ x. stageBy 1 (not x) (store b′ l′ w′)) (sym y)) (first-line h);
   formed = h .made .good y .formed;
   counted = omega arith;
+  none = refl;
+  place = refl;
 }
 
 unchanged-formed : {b l w b′ l′ w′ : List ℕ} → Unchanged b l w b′ l′ w′ → WellFormed b l w → WellFormed b′ l′ w′
 unchanged-formed u f = rw (u .bytes, u .links, u .words) f
 
-pub one-refused : {b l w b′ l′ w′ line out : List ℕ} {at number : ℕ} {bad r : Bool} → bad ≡ false → number ≡ 0
-    → Starts line b l w b′ l′ w′ r → r ≡ false → WellFormed b l w
-    → OneLine (store b l w) line out at number bad (store b′ l′ w′) out (record { number = 0; bad = true; at = at })
-one-refused {b} {l} {w} {b′} {l′} {w′} {line} {out} {at} {number} {bad} {r} e z h y f = record {
-  text = [];
-  is = moved-line (at-opening number bad (store b l w) e z)
-      (at-closed 0 true (store b′ l′ w′) refl ∙ sym (at-closed 1 (not r) (store b′ l′ w′) (ap not y))) (first-line h);
-  wrote = wrote-none out at;
-  few = omega arith;
+pub first-refused : {b l w b′ l′ w′ line : List ℕ} {at : ℕ} {r : Bool} → Starts line b l w b′ l′ w′ r → r ≡ false → WellFormed b l w
+    → FirstLine line at (store b′ l′ w′) (record { number = 0; bad = true; count = 0; at = at })
+first-refused {b′ = b′} {l′} {w′} {r = r} h y f = record {
+  is = moved-line refl (at-closed 0 true (store b′ l′ w′) refl ∙ sym (at-closed 1 (not r) (store b′ l′ w′) (ap not y))) (first-line h);
   formed = unchanged-formed (h .made .bad y) f;
   counted = omega arith;
+  none = refl;
+  place = refl;
 }
 
-pub one-later : {b l w b′ l′ w′ line out out′ : List ℕ} {at number p : ℕ} {bad : Bool} → bad ≡ false → (number ≡ 0 → ⊥)
-    → Plays line number b l w b′ l′ w′ out at out′ p
-    → OneLine (store b l w) line out at number bad (store b′ l′ w′) out′ (record { number = number + 1; bad = false; at = p })
-one-later {b} {l} {w} {b′} {l′} {w′} {line} {out} {out′} {at} {number} {p} {bad} e n h =
+pub one-first : {s s′ : Store} {line out : List ℕ} {run r : Run} → run .bad ≡ false → run .number ≡ 0
+    → FirstLine line (run .at) s′ r → OneLine s line out run s′ out r
+one-first {s} {s′} {line} {out} {run} {r} e z h = record {
+  text = [];
+  is = moved-line (at-opening (run .number) (run .bad) s e z) refl (h .is);
+  wrote = subst (λ (k : ℕ). Wrote out (run .at) [] out k) (sym (h .place)) (wrote-none out (run .at));
+  few = omega arith;
+  formed = h .formed;
+  counted = omega (arith, h .counted);
+  none = h .none;
+}
+
+pub one-later : {b l w b′ l′ w′ line out out′ : List ℕ} {run : Run} {p : ℕ} → run .bad ≡ false → (run .number ≡ 0 → ⊥)
+    → Plays line (run .number) b l w b′ l′ w′ out (run .at) out′ p
+    → OneLine (store b l w) line out run (store b′ l′ w′) out′ (record { number = run .number + 1; bad = false; count = 0; at = p })
+one-later {b} {l} {w} {b′} {l′} {w′} {line} {out} {out′} {run} {p} e n h =
     let x = later-line h in record {
       text = x .text;
-      is = moved-line (at-playing number bad (store b l w) e n)
-          (at-playing (number + 1) false (store b′ l′ w′) refl (λ z. omega arith) ∙ ap (λ k. playing k (store b′ l′ w′)) (add-one number)) (x .is);
+      is = moved-line (at-playing (run .number) (run .bad) (store b l w) e n)
+          (at-playing (run .number + 1) false (store b′ l′ w′) refl (λ z. omega arith)
+          ∙ ap (λ k. playing k (store b′ l′ w′)) (add-one (run .number))) (x .is);
       wrote = x .wrote;
       few = omega (arith, x .few);
       formed = h .played .formed;
       counted = omega arith;
+      none = refl;
     }
 
 -- ---- what is held
@@ -159,9 +168,9 @@ hold-is held part back z rest count n size few e b =
 
 -- ---- a line of which bytes are held
 
-as-line : {s s′ : Store} {l m out out′ : List ℕ} {at number : ℕ} {bad : Bool} {r : Next}
+as-line : {s s′ : Store} {l m out out′ : List ℕ} {run r : Run}
     → ((g q : At stores) (t : List ℕ) → Line stores g l t q → Line stores g m t q)
-    → OneLine s l out at number bad s′ out′ r → OneLine s m out at number bad s′ out′ r
+    → OneLine s l out run s′ out′ r → OneLine s m out run s′ out′ r
 as-line f x = record {
   text = x .text;
   is = f _ _ (x .text) (x .is);
@@ -169,19 +178,19 @@ as-line f x = record {
   few = x .few;
   formed = x .formed;
   counted = x .counted;
+  none = x .none;
 }
 
-pub ended-whole : {s s′ : Store} {held part out out′ : List ℕ} {at number count : ℕ} {bad : Bool} {r : Next} → count ≡ 0
-    → length held ≡ HELD → OneLine s part out at number bad s′ out′ r
-    → EndedLine s held part out at number bad count s′ held out′ r
+pub ended-whole : {s s′ : Store} {held part out out′ : List ℕ} {run r : Run} → run .count ≡ 0
+    → length held ≡ HELD → OneLine s part out run s′ out′ r → EndedLine s held part out run s′ held out′ r
 ended-whole {held = held} {part = part} z size x = record {
   one = as-line (λ g q t d. subst (λ (l : List ℕ). Line stores g l t q) (ap (λ k. cut (take k held ++ part)) (sym z)) (line-whole d)) x;
   size = size;
 }
 
-pub ended-held : {s s′ : Store} {held held′ part out out′ : List ℕ} {at number count n : ℕ} {bad : Bool} {r : Next}
-    → Holds held count part held′ n → length held′ ≡ HELD → OneLine s (take n held′) out at number bad s′ out′ r
-    → EndedLine s held part out at number bad count s′ held′ out′ r
+pub ended-held : {s s′ : Store} {held held′ part out out′ : List ℕ} {n : ℕ} {run r : Run}
+    → Holds held (run .count) part held′ n → length held′ ≡ HELD → OneLine s (take n held′) out run s′ out′ r
+    → EndedLine s held part out run s′ held′ out′ r
 ended-held h size x = record {
   one = as-line (λ g q t d. subst (λ (l : List ℕ). Line stores g l t q) (h .is) d) x;
   size = size;
@@ -189,31 +198,34 @@ ended-held h size x = record {
 
 -- ---- the loop over the lines of a window
 
-pub record Inv (b₀ l₀ w₀ held₀ window out₀ : List ℕ) (at number₀ : ℕ) (bad₀ : Bool) (count₀ : ℕ)
-    (b l w held out : List ℕ) (number : ℕ) (bad : Bool) (count from p : ℕ) : Type 0 where
+none-held : (held : List ℕ) (count : ℕ) → count ≡ 0 → take count held ≡ []
+none-held held count e = ap (λ k. take k held) e
+
+-- the bytes before place `from` were fed
+pub record Inv (b₀ l₀ w₀ held₀ window out₀ : List ℕ) (run₀ : Run) (b l w held out : List ℕ) (run : Run) (from : ℕ) : Type 0 where
   pub text : List ℕ
-  pub reached : Reached stores (length out₀ - at) (stageBy number₀ bad₀ (store b₀ l₀ w₀)) (take count₀ held₀) window from text
-      (stageBy number bad (store b l w)) (take count held)
-  pub wrote : Wrote out₀ at text out p
+  pub reached : Reached stores (length out₀ - run₀ .at) (stageOf (runOf run₀) (store b₀ l₀ w₀)) (take (run₀ .count) held₀) window from text
+      (stageOf (runOf run) (store b l w)) (take (run .count) held)
+  pub wrote : Wrote out₀ (run₀ .at) text out (run .at)
   pub long : length out ≡ length out₀
-  pub place : p ≤ length out
+  pub place : run .at ≤ length out
   pub formed : WellFormed b l w
   pub size : length held ≡ HELD
-  pub few : count ≤ HELD
-  pub counted : number ≤ number₀ + from
-  pub start : at ≤ length out₀
-  pub total : number₀ + length window ≤ LAST
+  pub few : run .count ≤ HELD
+  pub counted : run .number ≤ run₀ .number + from
+  pub start : run₀ .at ≤ length out₀
+  pub total : run₀ .number + length window ≤ LAST
 
 held-cut : (held : List ℕ) (count : ℕ) → count ≤ HELD → take count held ≡ cut (take count held)
 unfolding cut
 held-cut held count few = sym (take-all HELD (take count held) (omega (arith, length-take count held)))
 
-pub inv-start : {b l w held window out : List ℕ} {at : ℕ} {r : Contract.Run} → Contract.FeedAsks (store b l w) held r window out at
-    → Inv b l w held window out at (r .number) (r .bad) (r .count) b l w held out (r .number) (r .bad) (r .count) 0 at
-inv-start {held = held} {out = out} {at = at} {r = r} a = record {
+pub inv-start : {b l w held window out : List ℕ} {r : Run} → Contract.FeedAsks (store b l w) held (runOf r) window out (r .at)
+    → Inv b l w held window out r b l w held out r 0
+inv-start {held = held} {out = out} {r = r} a = record {
   text = [];
   reached = reached-none (held-cut held (r .count) (a .stands .few));
-  wrote = wrote-none out at;
+  wrote = wrote-none out (r .at);
   long = refl;
   place = a .place;
   formed = a .stands .formed;
@@ -224,41 +236,39 @@ inv-start {held = held} {out = out} {at = at} {r = r} a = record {
   total = a .counted;
 }
 
-module _ {b₀ l₀ w₀ held₀ window out₀ : List ℕ} {at number₀ : ℕ} {bad₀ : Bool} {count₀ : ℕ}
-    {b l w held out : List ℕ} {number : ℕ} {bad : Bool} {count from p : ℕ}
-    (i : Inv b₀ l₀ w₀ held₀ window out₀ at number₀ bad₀ count₀ b l w held out number bad count from p) where
-  pub inv-within : from ≤ length window
-  inv-within = i .reached .within
-
-  room : ANSWER ≤ length out - p → ANSWER ≤ length out₀ - at - length (i .text)
+module _ {b₀ l₀ w₀ held₀ window out₀ : List ℕ} {run₀ : Run} {b l w held out : List ℕ} {run : Run} {from : ℕ}
+    (i : Inv b₀ l₀ w₀ held₀ window out₀ run₀ b l w held out run from) where
+  room : ANSWER ≤ length out - run .at → ANSWER ≤ length out₀ - run₀ .at - length (i .text)
   room h = omega (arith, i .wrote .end, i .long)
 
-  pub inv-line : {b′ l′ w′ held′ out′ : List ℕ} {r : ℕ} {x : Next} → ANSWER ≤ length out - p → EndsLine window from (length window) r
-      → (r ≡ length window → ⊥) → EndedLine (store b l w) held (part from r window) out p number bad count (store b′ l′ w′) held′ out′ x
-      → length out′ ≡ length out
-      → Inv b₀ l₀ w₀ held₀ window out₀ at number₀ bad₀ count₀ b′ l′ w′ held′ out′ (x .number) (x .bad) 0 (r + 1) (x .at)
-  inv-line {r = r} {x = x} h e ne d long =
+  pub inv-line : {b′ l′ w′ held′ out′ : List ℕ} {r : ℕ} {x : Run} → ANSWER ≤ length out - run .at → EndsLine window from (length window) r
+      → (r ≡ length window → ⊥) → EndedLine (store b l w) held (part from r window) out run (store b′ l′ w′) held′ out′ x
+      → length out′ ≡ length out → Inv b₀ l₀ w₀ held₀ window out₀ run₀ b′ l′ w′ held′ out′ x (r + 1)
+  inv-line {b′} {l′} {w′} {held′} {r = r} {x = x} h e ne d long =
       let inside : r < length window = omega (arith, e .high) in record {
         text = i .text ++ d .one .text;
-        reached = reached-line (i .reached) r e inside (room h) (d .one .is);
+        reached = subst (λ (z : List ℕ). Reached stores (length out₀ - run₀ .at) (stageOf (runOf run₀) (store b₀ l₀ w₀)) (take (run₀ .count) held₀)
+            window (r + 1) (i .text ++ d .one .text) (stageOf (runOf x) (store b′ l′ w′)) z)
+            (sym (none-held held′ (x .count) (d .one .none))) (reached-line (i .reached) r e inside (room h) (d .one .is));
         wrote = wrote-then (i .wrote) (d .one .wrote) (i .start);
         long = long ∙ i .long;
         place = omega (arith, d .one .wrote .end, d .one .few);
         formed = d .one .formed;
         size = d .size;
-        few = omega arith;
+        few = omega (arith, d .one .none);
         counted = omega (arith, d .one .counted, i .counted, e .low);
         start = i .start;
         total = i .total;
       }
 
-  abbrev was : Contract.Run
-  was = record { number = number₀; bad = bad₀; count = count₀ }
+  -- so many bytes of the window are taken, and n are held
+  abbrev Fed-to : List ℕ → ℕ → ℕ → Type 0
+  Fed-to held′ n taken = Feeding (store b₀ l₀ w₀) held₀ (runOf run₀) window out₀ (run₀ .at) (store b l w) held′ out
+      (record { run = record { number = run .number; bad = run .bad; count = n }; taken = taken; at = run .at })
 
-  fed : {held′ : List ℕ} {n taken : ℕ} → Feeds stores (length out₀ - at) (stageBy number₀ bad₀ (store b₀ l₀ w₀)) (take count₀ held₀) window taken (i .text)
-      (stageBy number bad (store b l w)) (take n held′) → length held′ ≡ HELD → n ≤ HELD → from ≤ taken
-      → Feeding (store b₀ l₀ w₀) held₀ was window out₀ at (store b l w) held′ out
-      (record { run = record { number = number; bad = bad; count = n }; taken = taken; at = p })
+  fed : {held′ : List ℕ} {n taken : ℕ} → Feeds stores (length out₀ - run₀ .at) (stageOf (runOf run₀) (store b₀ l₀ w₀)) (take (run₀ .count) held₀)
+      window taken (i .text) (stageOf (runOf run) (store b l w)) (take n held′) → length held′ ≡ HELD → n ≤ HELD → from ≤ taken
+      → Fed-to held′ n taken
   fed f size few low = record {
     text = i .text;
     feeds = f;
@@ -268,23 +278,19 @@ module _ {b₀ l₀ w₀ held₀ window out₀ : List ℕ} {at number₀ : ℕ} 
     number = omega (arith, i .counted);
   }
 
-  pub feed-all : length window ≤ from → Feeding (store b₀ l₀ w₀) held₀ was window out₀ at (store b l w) held out
-      (record { run = record { number = number; bad = bad; count = count }; taken = from; at = p })
+  pub feed-all : length window ≤ from → Fed-to held (run .count) from
   feed-all h = fed (reached-all (i .reached) (omega (arith, i .reached .within))) (i .size) (i .few) (omega arith)
 
-  pub feed-full : length out - p < ANSWER → Feeding (store b₀ l₀ w₀) held₀ was window out₀ at (store b l w) held out
-      (record { run = record { number = number; bad = bad; count = count }; taken = from; at = p })
+  pub feed-full : length out - run .at < ANSWER → Fed-to held (run .count) from
   feed-full h = fed (reached-full (i .reached) (omega (arith, i .wrote .end, i .long))) (i .size) (i .few) (omega arith)
 
-  pub feed-held : {held′ : List ℕ} {r n : ℕ} → ANSWER ≤ length out - p → EndsLine window from (length window) r → r ≡ length window
-      → Holds held count (part from (length window) window) held′ n → length held′ ≡ HELD
-      → Feeding (store b₀ l₀ w₀) held₀ was window out₀ at (store b l w) held′ out
-      (record { run = record { number = number; bad = bad; count = n }; taken = r; at = p })
+  pub feed-held : {held′ : List ℕ} {r n : ℕ} → ANSWER ≤ length out - run .at → EndsLine window from (length window) r → r ≡ length window
+      → Holds held (run .count) (part from (length window) window) held′ n → length held′ ≡ HELD → Fed-to held′ n r
   feed-held {held′} {r} {n} h e z hs size = fed
-      (subst (λ k. Feeds stores (length out₀ - at) (stageBy number₀ bad₀ (store b₀ l₀ w₀)) (take count₀ held₀) window k (i .text)
-      (stageBy number bad (store b l w)) (take n held′)) (sym z)
-      (subst (λ (y : List ℕ). Feeds stores (length out₀ - at) (stageBy number₀ bad₀ (store b₀ l₀ w₀)) (take count₀ held₀) window (length window) (i .text)
-      (stageBy number bad (store b l w)) y) (sym (hs .is)) (reached-held (i .reached) e z (room h))))
+      (subst (λ k. Feeds stores (length out₀ - run₀ .at) (stageOf (runOf run₀) (store b₀ l₀ w₀)) (take (run₀ .count) held₀) window k (i .text)
+      (stageOf (runOf run) (store b l w)) (take n held′)) (sym z)
+      (subst (λ (y : List ℕ). Feeds stores (length out₀ - run₀ .at) (stageOf (runOf run₀) (store b₀ l₀ w₀)) (take (run₀ .count) held₀) window (length window) (i .text)
+      (stageOf (runOf run) (store b l w)) y) (sym (hs .is)) (reached-held (i .reached) e z (room h))))
       size (hs .few) (e .low)
 
 pub room-for : (size p : ℕ) → p ≤ size → ANSWER ≤ size - p → p + ANSWER ≤ size
@@ -292,29 +298,29 @@ room-for size p h g = omega arith
 
 -- ---- the end of the input
 
-pub end-bad : {s : Store} {out out′ : List ℕ} {at number r : ℕ} {bad : Bool} → bad ≡ true → Put REFUSAL out at (lineOf (0 ∷ 2 ∷ [])) out′ r
-    → EndPut s out at number bad out′ r
-end-bad {s} {number = number} {bad = bad} e p = record {
+pub end-bad : {s : Store} {out out′ : List ℕ} {r : ℕ} {run : Run} → run .bad ≡ true → Put REFUSAL out (run .at) (lineOf (0 ∷ 2 ∷ [])) out′ r
+    → EndPut s out run out′ r
+end-bad {s} {run = run} e p = record {
   text = lineOf (0 ∷ 2 ∷ []);
-  closes = subst (λ g. Closes stores g (lineOf (0 ∷ 2 ∷ []))) (sym (at-closed number bad s e)) (refused refl);
+  closes = subst (λ g. Closes stores g (lineOf (0 ∷ 2 ∷ []))) (sym (at-closed (run .number) (run .bad) s e)) (refused refl);
   wrote = p .wrote;
   few = omega (arith, p .room, p .wrote .end);
 }
 
-pub end-absent : {s : Store} {out out′ : List ℕ} {at number r : ℕ} {bad : Bool} → bad ≡ false → number ≡ 0
-    → Put REFUSAL out at (lineOf (0 ∷ 2 ∷ [])) out′ r → EndPut s out at number bad out′ r
-end-absent {s} {number = number} {bad = bad} e z p = record {
+pub end-absent : {s : Store} {out out′ : List ℕ} {r : ℕ} {run : Run} → run .bad ≡ false → run .number ≡ 0
+    → Put REFUSAL out (run .at) (lineOf (0 ∷ 2 ∷ [])) out′ r → EndPut s out run out′ r
+end-absent {s} {run = run} e z p = record {
   text = lineOf (0 ∷ 2 ∷ []);
-  closes = subst (λ g. Closes stores g (lineOf (0 ∷ 2 ∷ []))) (sym (at-opening number bad s e z)) (absent refl);
+  closes = subst (λ g. Closes stores g (lineOf (0 ∷ 2 ∷ []))) (sym (at-opening (run .number) (run .bad) s e z)) (absent refl);
   wrote = p .wrote;
   few = omega (arith, p .room, p .wrote .end);
 }
 
-pub end-totals : {b l w out out′ : List ℕ} {at number r : ℕ} {bad : Bool} → bad ≡ false → (number ≡ 0 → ⊥)
-    → Put TOTALS out at (totalsLine (view b l w)) out′ r → EndPut (store b l w) out at number bad out′ r
-end-totals {b} {l} {w} {number = number} {bad = bad} e n p = record {
+pub end-totals : {b l w out out′ : List ℕ} {r : ℕ} {run : Run} → run .bad ≡ false → (run .number ≡ 0 → ⊥)
+    → Put TOTALS out (run .at) (totalsLine (view b l w)) out′ r → EndPut (store b l w) out run out′ r
+end-totals {b} {l} {w} {run = run} e n p = record {
   text = totalsLine (view b l w);
-  closes = subst (λ g. Closes stores g (totalsLine (view b l w))) (sym (at-playing number bad (store b l w) e n)) (totals refl);
+  closes = subst (λ g. Closes stores g (totalsLine (view b l w))) (sym (at-playing (run .number) (run .bad) (store b l w) e n)) (totals refl);
   wrote = p .wrote;
   few = omega (arith, p .room, p .wrote .end);
 }
@@ -322,28 +328,25 @@ end-totals {b} {l} {w} {number = number} {bad = bad} e n p = record {
 pub totals-ask : {b l w out : List ℕ} {at : ℕ} → EndAsks (store b l w) out at → TotalsAsk b l w at out
 totals-ask a = record { sized = a .formed .sized; total = a .formed .valid .total; room = a .room }
 
-none-held : (held : List ℕ) (count : ℕ) → count ≡ 0 → take count held ≡ []
-none-held held count e = ap (λ k. take k held) e
-
 ends-some : {g m : At stores} {out text : List ℕ} (l : List ℕ) → 1 ≤ length l → Line stores g l out m → Closes stores m text
     → Ends stores g l (out ++ text)
 ends-some [] h d c = absurd (omega arith)
 ends-some (b ∷ l) h d c = last d c
 
-pub finish-none : {s : Store} {held out out′ : List ℕ} {at r : ℕ} {q : Contract.Run} → Contract.FinishAsks s held q out at → q .count ≡ 0
-    → EndPut s out at (q .number) (q .bad) out′ r → length out′ ≡ length out → Contract.Finishing s held q out at s out′ r
+pub finish-none : {s : Store} {held out out′ : List ℕ} {r : ℕ} {q : Run} → Contract.FinishAsks s held (runOf q) out (q .at) → q .count ≡ 0
+    → EndPut s out q out′ r → length out′ ≡ length out → Contract.Finishing s held (runOf q) out (q .at) s out′ r
 finish-none {s} {held} {q = q} a z p long = record {
   text = p .text;
-  ends = subst (λ (l : List ℕ). Ends stores (stageBy (q .number) (q .bad) s) l (p .text)) (sym (none-held held (q .count) z)) (none (p .closes));
+  ends = subst (λ (l : List ℕ). Ends stores (stageOf (runOf q) s) l (p .text)) (sym (none-held held (q .count) z)) (none (p .closes));
   wrote = p .wrote;
   formed = a .stands .formed;
   place = omega (arith, p .wrote .end, p .few, a .room);
 }
 
-pub finish-last : {s s′ : Store} {held out mid out′ : List ℕ} {at r : ℕ} {q : Contract.Run} {x : Next}
-    → Contract.FinishAsks s held q out at → (q .count ≡ 0 → ⊥) → OneLine s (take (q .count) held) out at (q .number) (q .bad) s′ mid x
-    → EndPut s′ mid (x .at) (x .number) (x .bad) out′ r → length out′ ≡ length mid → length mid ≡ length out
-    → Contract.Finishing s held q out at s′ out′ r
+pub finish-last : {s s′ : Store} {held out mid out′ : List ℕ} {r : ℕ} {q x : Run}
+    → Contract.FinishAsks s held (runOf q) out (q .at) → (q .count ≡ 0 → ⊥) → OneLine s (take (q .count) held) out q s′ mid x
+    → EndPut s′ mid x out′ r → length out′ ≡ length mid → length mid ≡ length out
+    → Contract.Finishing s held (runOf q) out (q .at) s′ out′ r
 finish-last {held = held} {q = q} a z d p long same = record {
   text = d .text ++ p .text;
   ends = ends-some (take (q .count) held)
@@ -353,6 +356,6 @@ finish-last {held = held} {q = q} a z d p long same = record {
   place = omega (arith, p .wrote .end, p .few, d .wrote .end, d .few, a .room);
 }
 
-pub end-room : {s s′ : Store} {held line out mid : List ℕ} {at number : ℕ} {bad : Bool} {q : Contract.Run} {x : Next}
-    → Contract.FinishAsks s held q out at → OneLine s line out at number bad s′ mid x → length mid ≡ length out → EndAsks s′ mid (x .at)
+pub end-room : {s s′ : Store} {held line out mid : List ℕ} {q x : Run}
+    → Contract.FinishAsks s held (runOf q) out (q .at) → OneLine s line out q s′ mid x → length mid ≡ length out → EndAsks s′ mid (x .at)
 end-room a d same = record { formed = d .formed; room = omega (arith, d .wrote .end, d .few, a .room) }

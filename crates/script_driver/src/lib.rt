@@ -17,7 +17,7 @@ use script_text::lines::line_end;
 // Room for an answer and for the last line of the output.
 pub const ROOM: usize = 2916;
 
-// Where a run stands between two turns.
+// Where a run stands.
 pub struct Run {
     // The next line's number, "counted from 1" after line one; 0 before line one.
     pub number: u64,
@@ -25,13 +25,14 @@ pub struct Run {
     pub bad: bool,
     // So many bytes at the front of the buffer `held` belong to a line that has not ended.
     pub count: usize,
+    // The place in the output after what was written.
+    pub at: usize,
 }
 
-// How far a turn came: the run after it, the bytes of the window that were taken, the place after what was written.
+// How far a turn came: the run after it, and the bytes of the window that were taken.
 pub struct Fed {
     pub run: Run,
     pub taken: usize,
-    pub at: usize,
 }
 
 // Plays as many lines as end in the window and as there is room for, and holds what stands after the last.
@@ -46,36 +47,32 @@ pub fn feed(
     held: &mut [u8],
     window: &[u8],
     out: &mut [u8],
-    at: usize,
-    run: Run,
+    begun: Run,
 ) -> Fed
-    requires { ⌜ FeedAsks (store (now bytes) (now links) (now words)) (now held) (runOf run) (now window) (now out) at ⌝
+    requires { ⌜ FeedAsks (store (now bytes) (now links) (now words)) (now held) (runOf begun) (now window) (now out) (begun .at) ⌝
         ∗ ⌜ Working (now numbers) (now text) (now buffer) (now scratch) ⌝ }
-    ensures { λ r. ⌜ Feeding (store (now (bytes .entry)) (now (links .entry)) (now (words .entry))) (now (held .entry)) (runOf run)
-        (now (window .entry)) (now (out .entry)) at
+    ensures { λ r. ⌜ Feeding (store (now (bytes .entry)) (now (links .entry)) (now (words .entry))) (now (held .entry)) (runOf begun)
+        (now (window .entry)) (now (out .entry)) (begun .at)
         (store (now (bytes .exit)) (now (links .exit)) (now (words .exit))) (now (held .exit)) (now (out .exit)) (fedOf r) ⌝ }
 {
-    let mut number = run.number;
-    let mut bad = run.bad;
-    let mut count = run.count;
+    let mut run = begun;
     let mut from = 0;
-    let mut p = at;
-    while from < window.len() && out.len() - p >= ANSWER {
+    while from < window.len() && out.len() - run.at >= ANSWER {
         let end = line_end(window, from, window.len());
         if end == window.len() {
-            let n = hold(held, count, &window[from..]);
+            let n = hold(held, run.count, &window[from..]);
             let last = Run {
-                number,
-                bad,
+                number: run.number,
+                bad: run.bad,
                 count: n,
+                at: run.at,
             };
             return Fed {
                 run: last,
                 taken: end,
-                at: p,
             };
         }
-        let next = ended(
+        run = ended(
             bytes,
             links,
             words,
@@ -86,45 +83,25 @@ pub fn feed(
             held,
             &window[from..end],
             out,
-            p,
-            number,
-            bad,
-            count,
+            run,
         );
-        number = next.number;
-        bad = next.bad;
-        p = next.at;
-        count = 0;
         from = end + 1;
     }
-    let stand = Run { number, bad, count };
-    Fed {
-        run: stand,
-        taken: from,
-        at: p,
-    }
+    Fed { run, taken: from }
 }
 
 // "Line one .. if bad or absent, `0 2` is all it writes"; else "last `T`" and the totals.
-fn put_end(
-    bytes: &[u8],
-    links: &[u16],
-    words: &[u32],
-    out: &mut [u8],
-    at: usize,
-    number: u64,
-    bad: bool,
-) -> usize
-    requires { ⌜ EndAsks (store (now bytes) (now links) (now words)) (now out) at ⌝ }
-    ensures { λ r. ⌜ EndPut (store (now (bytes .entry)) (now (links .entry)) (now (words .entry))) (now (out .entry)) at number bad (now (out .exit)) r ⌝ }
+fn put_end(bytes: &[u8], links: &[u16], words: &[u32], out: &mut [u8], run: Run) -> usize
+    requires { ⌜ EndAsks (store (now bytes) (now links) (now words)) (now out) (run .at) ⌝ }
+    ensures { λ r. ⌜ EndPut (store (now (bytes .entry)) (now (links .entry)) (now (words .entry))) (now (out .entry)) run (now (out .exit)) r ⌝ }
 {
-    if bad {
-        return bad_first_line(out, at);
+    if run.bad {
+        return bad_first_line(out, run.at);
     }
-    if number == 0 {
-        return bad_first_line(out, at);
+    if run.number == 0 {
+        return bad_first_line(out, run.at);
     }
-    totals_line(bytes, links, words, out, at)
+    totals_line(bytes, links, words, out, run.at)
 }
 
 // The end of the input: "The last line may lack its end; nothing after a last byte 10 is no line." Then the last line of the output.
@@ -138,19 +115,17 @@ pub fn finish(
     scratch: &mut [u16],
     held: &[u8],
     out: &mut [u8],
-    at: usize,
     run: Run,
 ) -> usize
-    requires { ⌜ FinishAsks (store (now bytes) (now links) (now words)) (now held) (runOf run) (now out) at ⌝
+    requires { ⌜ FinishAsks (store (now bytes) (now links) (now words)) (now held) (runOf run) (now out) (run .at) ⌝
         ∗ ⌜ Working (now numbers) (now text) (now buffer) (now scratch) ⌝ }
-    ensures { λ r. ⌜ Finishing (store (now (bytes .entry)) (now (links .entry)) (now (words .entry))) (now (held .entry)) (runOf run) (now (out .entry)) at
+    ensures { λ r. ⌜ Finishing (store (now (bytes .entry)) (now (links .entry)) (now (words .entry))) (now (held .entry)) (runOf run) (now (out .entry)) (run .at)
         (store (now (bytes .exit)) (now (links .exit)) (now (words .exit))) (now (out .exit)) r ⌝ }
 {
-    let count = run.count;
-    if count == 0 {
-        return put_end(bytes, links, words, out, at, run.number, run.bad);
+    if run.count == 0 {
+        return put_end(bytes, links, words, out, run);
     }
-    let next = one_line(
+    let last = one_line(
         bytes,
         links,
         words,
@@ -158,11 +133,9 @@ pub fn finish(
         text,
         buffer,
         scratch,
-        &held[..count],
+        &held[..run.count],
         out,
-        at,
-        run.number,
-        run.bad,
+        run,
     );
-    put_end(bytes, links, words, out, next.at, next.number, next.bad)
+    put_end(bytes, links, words, out, last)
 }

@@ -2,19 +2,13 @@
 ghost use Prim.Native.Nat.{min};
 ghost use mathlib.Core.Path.{_≡_};
 ghost use Rattle.script_play.specs.Plays.{Working};
-ghost use Rattle.script_driver.specs.Parts.{store, HoldAsks, Holds, LineAsks, OneLine, EndedAsks, EndedLine};
+ghost use Rattle.script_driver.specs.Parts.{store, HoldAsks, Holds, FirstAsks, FirstLine, LineAsks, OneLine, EndedAsks, EndedLine};
+use crate::Run;
 use script_play::line::play_line;
 use script_play::start::start;
 
 // Of a line that has not ended so many bytes are held at most: one more than a line may have.
 pub const HELD: usize = 2049;
-
-// Where a run stands after a line: as in `Run`, and the place after what was written.
-pub struct Next {
-    pub number: u64,
-    pub bad: bool,
-    pub at: usize,
-}
 
 fn fewer(a: usize, b: usize) -> usize
     ensures { λ r. ⌜ r ≡ min a b ⌝ }
@@ -35,6 +29,34 @@ pub fn hold(held: &mut [u8], count: usize, part: &[u8]) -> usize
     count + n
 }
 
+// Line one, without its end.
+fn first_line(
+    line: &[u8],
+    numbers: &mut [u32],
+    bytes: &mut [u8],
+    links: &mut [u16],
+    words: &mut [u32],
+    at: usize,
+) -> Run
+    requires { ⌜ FirstAsks (store (now bytes) (now links) (now words)) (now numbers) ⌝ }
+    ensures { λ r. ⌜ FirstLine (now (line .entry)) at (store (now (bytes .exit)) (now (links .exit)) (now (words .exit))) r ⌝ }
+{
+    if start(line, numbers, bytes, links, words) {
+        return Run {
+            number: 1,
+            bad: false,
+            count: 0,
+            at,
+        };
+    }
+    Run {
+        number: 0,
+        bad: true,
+        count: 0,
+        at,
+    }
+}
+
 // A line, without its end. After a bad line one no line is played.
 pub fn one_line(
     bytes: &mut [u8],
@@ -46,34 +68,24 @@ pub fn one_line(
     scratch: &mut [u16],
     line: &[u8],
     out: &mut [u8],
-    at: usize,
-    number: u64,
-    bad: bool,
-) -> Next
-    requires { ⌜ LineAsks (store (now bytes) (now links) (now words)) (now out) at number ⌝ ∗ ⌜ Working (now numbers) (now text) (now buffer) (now scratch) ⌝ }
-    ensures { λ r. ⌜ OneLine (store (now (bytes .entry)) (now (links .entry)) (now (words .entry))) (now (line .entry)) (now (out .entry)) at number bad
+    run: Run,
+) -> Run
+    requires { ⌜ LineAsks (store (now bytes) (now links) (now words)) (now out) run ⌝ ∗ ⌜ Working (now numbers) (now text) (now buffer) (now scratch) ⌝ }
+    ensures { λ r. ⌜ OneLine (store (now (bytes .entry)) (now (links .entry)) (now (words .entry))) (now (line .entry)) (now (out .entry)) run
         (store (now (bytes .exit)) (now (links .exit)) (now (words .exit))) (now (out .exit)) r ⌝ }
 {
-    if bad {
-        return Next {
+    let number = run.number;
+    let at = run.at;
+    if run.bad {
+        return Run {
             number,
             bad: true,
+            count: 0,
             at,
         };
     }
     if number == 0 {
-        if start(line, numbers, bytes, links, words) {
-            return Next {
-                number: 1,
-                bad: false,
-                at,
-            };
-        }
-        return Next {
-            number: 0,
-            bad: true,
-            at,
-        };
+        return first_line(line, numbers, bytes, links, words, at);
     }
     let p = play_line(
         bytes,
@@ -88,14 +100,15 @@ pub fn one_line(
         out,
         at,
     );
-    Next {
+    Run {
         number: number + 1,
         bad: false,
+        count: 0,
         at: p,
     }
 }
 
-// A line that has ended, of which `count` bytes are held and `part` is the rest: where none is held it lies whole there, and is not copied.
+// A line that has ended, of which some bytes are held and `part` is the rest: where none is held it lies whole there, and is not copied.
 pub fn ended(
     bytes: &mut [u8],
     links: &mut [u16],
@@ -107,17 +120,13 @@ pub fn ended(
     held: &mut [u8],
     part: &[u8],
     out: &mut [u8],
-    at: usize,
-    number: u64,
-    bad: bool,
-    count: usize,
-) -> Next
-    requires { ⌜ EndedAsks (store (now bytes) (now links) (now words)) (now held) (now out) at number count ⌝ ∗ ⌜ Working (now numbers) (now text) (now buffer) (now scratch) ⌝ }
-    ensures { λ r. ⌜ EndedLine (store (now (bytes .entry)) (now (links .entry)) (now (words .entry))) (now (held .entry)) (now (part .entry)) (now (out .entry))
-        at number bad count
+    run: Run,
+) -> Run
+    requires { ⌜ EndedAsks (store (now bytes) (now links) (now words)) (now held) (now out) run ⌝ ∗ ⌜ Working (now numbers) (now text) (now buffer) (now scratch) ⌝ }
+    ensures { λ r. ⌜ EndedLine (store (now (bytes .entry)) (now (links .entry)) (now (words .entry))) (now (held .entry)) (now (part .entry)) (now (out .entry)) run
         (store (now (bytes .exit)) (now (links .exit)) (now (words .exit))) (now (held .exit)) (now (out .exit)) r ⌝ }
 {
-    if count == 0 {
+    if run.count == 0 {
         return one_line(
             bytes,
             links,
@@ -128,12 +137,10 @@ pub fn ended(
             scratch,
             part,
             out,
-            at,
-            number,
-            bad,
+            run,
         );
     }
-    let n = hold(held, count, part);
+    let n = hold(held, run.count, part);
     one_line(
         bytes,
         links,
@@ -144,8 +151,6 @@ pub fn ended(
         scratch,
         &held[..n],
         out,
-        at,
-        number,
-        bad,
+        run,
     )
 }

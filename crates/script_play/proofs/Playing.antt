@@ -5,6 +5,7 @@ use mathlib.Core.Bool.{true, false, true≢false, false≢true}
 use mathlib.Core.List.{List, [], _∷_}
 use native.Mathlib.Omega.{arith}
 use lib.ListN.{length, take, length-take}
+use Rattle.rules.specs.Code as Code
 use Rattle.rules.specs.Store.{State}
 use Rattle.rules.specs.Rights.{Op, op}
 use Rattle.rules.specs.Call.{Call, Outcome, Choice, code}
@@ -30,13 +31,13 @@ use Rattle.script_play.specs.Plays.{lineWith, Unchanged, Played}
 
 -- ---- the rules of a line
 
-line-good : (h : Choice) (s : State) (ns : List ℕ) → lineFits (op (nth ns 0)) ns ≡ true
+pub line-good : (h : Choice) (s : State) (ns : List ℕ) → lineFits (op (nth ns 0)) ns ≡ true
     → lineWith h s ns ≡ rule s (lineCall (op (nth ns 0)) ns) h
 unfolding lineWith
 line-good h s ns e = pick-yes (lineFits (op (nth ns 0)) ns) _ _ e
 
-line-bad : (h : Choice) (s : State) (ns : List ℕ) → lineFits (op (nth ns 0)) ns ≡ false
-    → lineWith h s ns ≡ record { answer = code 2; after = s }
+pub line-bad : (h : Choice) (s : State) (ns : List ℕ) → lineFits (op (nth ns 0)) ns ≡ false
+    → lineWith h s ns ≡ record { answer = code Code.outOfRange; after = s }
 unfolding lineWith
 line-bad h s ns e = pick-not (lineFits (op (nth ns 0)) ns) _ _ e
 

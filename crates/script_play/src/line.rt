@@ -9,8 +9,8 @@ ghost use Rattle.script_play.specs.Plays.{Working, PlayAsks, NumbersAsk,
 use kernel_step::step;
 use script_answers::answer::answer_line;
 use script_lines::fits::line_fits;
-use script_lines::payload::bytes_of;
 use script_lines::request::request_of;
+use script_lines::text::bytes_of;
 use script_text::read::read_line;
 use script_text::write::put_line;
 

@@ -106,6 +106,12 @@ fn one_line(
     let mut before = [0u32; NOTED];
     let mut answer = [0u8; ANSWER];
     let run = stand.run;
+    let begun = Run {
+        number: run.number,
+        bad: run.bad,
+        count: run.count,
+        at: 0,
+    };
     let call = ending_call(held, run.count, window, run.number);
     note_before(bytes, links, words, &mut before, call);
     let fed = feed(
@@ -119,8 +125,7 @@ fn one_line(
         held,
         window,
         &mut answer,
-        0,
-        run,
+        begun,
     );
     let next = fed.run;
     Stand {

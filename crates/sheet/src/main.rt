@@ -70,6 +70,7 @@ fn play_all(
         number: 0,
         bad: false,
         count: 0,
+        at: 0,
     };
     let mut stand = Stand { run: begun, at: 0 };
     let mut turns = TURNS;

@@ -34,6 +34,7 @@ use Rattle.script_text.proofs.Sayings.{means-same}
 use Rattle.script_answers.specs.Ends.{totalsLine}
 use Rattle.script_answers.specs.Output.{MeanAll, none, more}
 use Rattle.script_play.specs.Starts.{passwordIn, Begun}
+use Rattle.script_play.proofs.Playing.{line-bad}
 use Rattle.script_driver.specs.Machine.{Fit}
 use Rattle.script_driver.specs.Turns.{opening, closed, playing, At, Goes, good, bad, unplayed, later}
 use Rattle.script_driver.specs.Turns.{Closes, absent, refused, totals, Lines, line}
@@ -42,7 +43,6 @@ use Rattle.script_driver.specs.Stores.{Store, Formed, stateOf, Played, stores}
 use Rattle.theorem_script.proofs.Following.{means-fit}
 use Rattle.theorem_script.specs.Events as Events
 use Rattle.theorem_script.specs.Events.{answerIn, Makes, over, call}
-use Rattle.theorem_script.proofs.Standing.{line-bad}
 
 abbrev asStore : Store → History.Store
 asStore s = record { bytes = s .bytes; links = s .links; words = s .words }

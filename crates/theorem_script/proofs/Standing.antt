@@ -1,36 +1,22 @@
 -- Three slices follow the rules, and what they do is exact.
 use Prim.Native.Nat.{ℕ}
 use mathlib.Core.Path.{_≡_, refl, sym, ap, _∙_, subst}
-use mathlib.Core.Bool.{true, false}
 use mathlib.Core.List.{List, _∷_}
-use Rattle.rules.specs.Code as Code
 use Rattle.rules.specs.Store.{State, fresh}
 use Rattle.rules.specs.Rights.{op}
-use Rattle.rules.specs.Call.{Answer, Outcome, Choice, code}
-use Rattle.rules.specs.Rule.{rule}
+use Rattle.rules.specs.Call.{Answer, Outcome}
 use Rattle.rules.specs.Demand.{Allowed}
 use Rattle.rules.specs.Script.{nth, lineFits, callOf, answerOf}
-use Rattle.rules.proofs.Tests.{by-bool, pick-yes, pick-not}
+use Rattle.rules.proofs.Tests.{by-bool}
 use Rattle.call_steps.specs.Run.{Ran}
 use Rattle.script_text.specs.Numeral.{lineOf}
 use Rattle.script_answers.specs.Ends.{totalsLine}
 use Rattle.script_play.specs.Plays.{lineWith}
 use Rattle.script_play.specs.Starts.{passwordIn}
+use Rattle.script_play.proofs.Playing.{line-bad}
 use Rattle.script_driver.specs.Machine.{Follows, Exact}
 use Rattle.script_driver.specs.Stores.{Store, stateOf, Played, stores}
 use Rattle.theorem_script.specs.Rules.{rulesFree}
-
--- ---- the rules of a line
-
-pub line-good : (h : Choice) (s : State) (ns : List ℕ) → lineFits (op (nth ns 0)) ns ≡ true
-    → lineWith h s ns ≡ rule s (callOf (op (nth ns 0)) ns) h
-unfolding lineWith
-line-good h s ns e = pick-yes (lineFits (op (nth ns 0)) ns) _ _ e
-
-pub line-bad : (h : Choice) (s : State) (ns : List ℕ) → lineFits (op (nth ns 0)) ns ≡ false
-    → lineWith h s ns ≡ record { answer = code Code.outOfRange; after = s }
-unfolding lineWith
-line-bad h s ns e = pick-not (lineFits (op (nth ns 0)) ns) _ _ e
 
 -- ---- the slices follow them
 

@@ -22,9 +22,9 @@ use Rattle.script_text.specs.Numeral.{lineOf, after}
 use Rattle.script_answers.specs.Ends.{totalsLine}
 use Rattle.script_play.specs.Plays.{lineWith}
 use Rattle.script_play.specs.Starts.{passwordIn}
+use Rattle.script_play.proofs.Playing.{line-good, line-bad}
 use Rattle.script_driver.specs.Machine.{Fit, Follows}
 use Rattle.theorem_script.specs.Rules.{rules, rulesFree}
-use Rattle.theorem_script.proofs.Standing.{line-good, line-bad}
 
 -- two stores of one meaning
 pub record Twins (s t : State) : Type 0 where

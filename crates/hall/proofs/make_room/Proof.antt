@@ -9,7 +9,7 @@ use Rattle.hall.proofs.make_room.Statement.{statement}
 use Rattle.hall.proofs.make_room.Tie as tie
 
 add-if1 : tie.Need-add-if1
-add-if1 c = omega (arith, c .before .pre .placed)
+add-if1 c = omega (arith, c .before .before .pre .placed)
 
 returns : tie.Need-returns
 returns c = record { room = omega arith; run = refl; written = []; kept = refl }

@@ -3,7 +3,6 @@ use mathlib.Core.Path.{refl, sym, _∙_}
 use native.Mathlib.Omega.{arith}
 use Rattle.script_driver.specs.Parts.{store}
 use Rattle.hall.proofs.Going.{Turning, turning-start, turning-asks, turning-on}
-use borrow.Author.Needs.{needs}
 use Rattle.hall.proofs.play_all.Statement.{statement}
 use Rattle.hall.proofs.play_all.Tie as tie
 

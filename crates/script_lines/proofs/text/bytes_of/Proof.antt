@@ -7,8 +7,8 @@ use Rattle.script_lines.proofs.Rows.{place-in}
 use Rattle.script_lines.proofs.Bytes.{line-bytes}
 use Rattle.script_lines.proofs.Calls.{no-front, bytes-front}
 use borrow.Author.Needs.{needs}
-use Rattle.script_lines.proofs.payload.bytes_of.Statement.{statement}
-use Rattle.script_lines.proofs.payload.bytes_of.Tie as tie
+use Rattle.script_lines.proofs.text.bytes_of.Statement.{statement}
+use Rattle.script_lines.proofs.text.bytes_of.Tie as tie
 
 nth-requires : tie.Need-nth-requires
 nth-requires c κs = search needs

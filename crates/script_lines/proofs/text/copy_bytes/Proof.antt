@@ -6,8 +6,8 @@ use denote.Ref.{now}
 use lib.ListN.{length}
 use Rattle.script_lines.proofs.Bytes.{bytes-from}
 use Rattle.script_lines.proofs.Gathering.{Copying, copying-none, copying-more, copying-all}
-use Rattle.script_lines.proofs.payload.copy_bytes.Statement.{statement}
-use Rattle.script_lines.proofs.payload.copy_bytes.Tie as tie
+use Rattle.script_lines.proofs.text.copy_bytes.Statement.{statement}
+use Rattle.script_lines.proofs.text.copy_bytes.Tie as tie
 
 abbrev Inv-loop : tie.InvT-loop
 Inv-loop numbers from text₀ i₀ n₀ text i n = Copying numbers from text₀ text i n
