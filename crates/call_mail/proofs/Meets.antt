@@ -118,9 +118,9 @@ module _ {b l w : List ℕ} (f : Plain b l w) where
     abbrev sent : ℕ → State
     sent i = setWaiting (withBox (spend s me (c .sum)) (at (s .box) i (s .box i ++ message s c me k ∷ []))) i false
 
-    module _ (m : Process b l me) (P : Process b l o) (room : countOf b o < 4) (short : length (c .bytes) ≤ 16) where
+    module _ (m : Process b l me) (P : Process b l o) (room : countOf b o < 4) (short : length (c .text) ≤ 16) where
       abbrev b′ : List ℕ
-      b′ = sentBytes b o (c .bytes)
+      b′ = sentBytes b o (c .text)
 
       abbrev w′ : List ℕ
       w′ = sentWords w me (messageSlot o (countOf b o)) (c .sum)
@@ -130,10 +130,10 @@ module _ {b l w : List ℕ} (f : Plain b l w) where
       shows =
           let Z = f .sized in
           let C = f .cells in
-          boxed-view (sent-boxed b l w Z C (c .bytes) short me o (c .sum) m P room) l C _ _ _
-          (sent-cash b l w Z C (c .bytes) short me o (c .sum) m P room)
-          (sent-marks b l w Z C (c .bytes) short me o (c .sum) m P room)
-          (sent-box b l w Z C (c .bytes) short me o (c .sum) m P room)
+          boxed-view (sent-boxed b l w Z C (c .text) short me o (c .sum) m P room) l C _ _ _
+          (sent-cash b l w Z C (c .text) short me o (c .sum) m P room)
+          (sent-marks b l w Z C (c .text) short me o (c .sum) m P room)
+          (sent-box b l w Z C (c .text) short me o (c .sum) m P room)
 
       send-does : DoesPlain l s c me k send (over 0 b′ l w′)
       unfolding over done does sendDoes
@@ -142,14 +142,14 @@ module _ {b l w : List ℕ} (f : Plain b l w) where
           let C = f .cells in
           record {
             rules = ap (λ i. done (sent i)) (cap-object b l w k) ∙ ap done (sym shows);
-            sized = sent-sized b l w Z C (c .bytes) short me o (c .sum) m P room;
-            cells = boxed-cells (sent-boxed b l w Z C (c .bytes) short me o (c .sum) m P room) l C
-                (sent-awake b l w Z C (c .bytes) short me o (c .sum) m P room);
+            sized = sent-sized b l w Z C (c .text) short me o (c .sum) m P room;
+            cells = boxed-cells (sent-boxed b l w Z C (c .text) short me o (c .sum) m P room) l C
+                (sent-awake b l w Z C (c .text) short me o (c .sum) m P room);
             links = refl;
           }
 
-    pub send-meets : Process b l me → Held l k → length (c .bytes) ≤ 16 → op (c .number) ≡ send
-        → MeetsPlain l s c me k send (sendRun b l w (c .bytes) me k (c .sum))
+    pub send-meets : Process b l me → Held l k → length (c .text) ≤ 16 → op (c .number) ≡ send
+        → MeetsPlain l s c me k send (sendRun b l w (c .text) me k (c .sum))
     unfolding takes refuses sendRun sendStop
     send-meets m h short e =
         let T = target-of f h in

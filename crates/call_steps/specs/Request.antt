@@ -17,7 +17,7 @@ capabilityOf x = record { name = nameOf (x .name); password = passwordOf (x .pas
 
 -- with the bytes that come with it, and the lengths of the answer buffer and of the scratch
 unfoldable pub callOf : Request → List ℕ → ℕ → ℕ → Call.Call
-callOf r bytes buffer scratch = record {
+callOf r text buffer scratch = record {
   number = r .number;
   caller = nameOf (r .caller);
   presented = capabilityOf (r .presented);
@@ -29,7 +29,7 @@ callOf r bytes buffer scratch = record {
   range = windowOf (r .range);
   sum = r .sum;
   lock = lockwordOf (r .lock);
-  bytes = bytes;
+  text = text;
   buffer = buffer;
   scratch = scratch;
 }

@@ -51,36 +51,36 @@ module _ {b l w : List ℕ} (f : Plain b l w) (c : Call) (me k : ℕ) (h : Held 
       (λ e. absurd (omega (arith, inside-no w k (c .range .start) (c .range .end) e)))
 
   module _ (ordered : c .range .start ≤ c .range .end)
-      (long : length (c .bytes) ≡ c .range .end - c .range .start) where
-    written-is : (xs : List ℕ) → replaced (c .range .start) (c .bytes) xs ≡ written s c me k xs
+      (long : length (c .text) ≡ c .range .end - c .range .start) where
+    written-is : (xs : List ℕ) → replaced (c .range .start) (c .text) xs ≡ written s c me k xs
     unfolding written
     written-is xs =
-        let e : c .range .start + length (c .bytes) ≡ c .range .end = omega arith in
-        rw e (sym (append-assoc (take (c .range .start) xs) (c .bytes) (drop (c .range .end) xs)))
+        let e : c .range .start + length (c .text) ≡ c .range .end = omega arith in
+        rw e (sym (append-assoc (take (c .range .start) xs) (c .text) (drop (c .range .end) xs)))
 
     abbrev after : List ℕ
-    after = copiedIn l (firstBlockOf l (ownerOf l k)) (c .range .start) (c .bytes) (length (c .bytes)) b
+    after = copiedIn l (firstBlockOf l (ownerOf l k)) (c .range .start) (c .text) (length (c .text)) b
 
     write-does : c .range .end ≤ sizeOf l (ownerOf l k) → DoesPlain l s c me k write (over 0 after l w)
     unfolding does writeDoes over done
     write-does fits =
         let o : ℕ = ownerOf l k in
-        let room : c .range .start + length (c .bytes) ≤ sizeOf l o = omega arith in
+        let room : c .range .start + length (c .text) ≤ sizeOf l o = omega arith in
         let B = f .blocks in
         record {
           rules = rw (cap-object b l w k, ← written-is (s .bytes o))
-              (ap done (sym (write-stored b l (f .sized .bytes) B o alive (c .range .start) (c .bytes) room w)));
+              (ap done (sym (write-stored b l (f .sized .bytes) B o alive (c .range .start) (c .text) room w)));
           sized = record {
-            bytes = after-length b l (f .sized .bytes) B o alive (c .range .start) (c .bytes) room;
+            bytes = after-length b l (f .sized .bytes) B o alive (c .range .start) (c .text) room;
             links = f .sized .links;
             words = f .sized .words;
           };
-          cells = write-cells b l (f .sized .bytes) B o alive (c .range .start) (c .bytes) room (f .cells);
+          cells = write-cells b l (f .sized .bytes) B o alive (c .range .start) (c .text) room (f .cells);
           links = refl;
         }
 
     pub write-meets : op (c .number) ≡ write
-        → MeetsPlain l s c me k write (writeRun b l w k (c .range .start) (c .range .end) (c .bytes))
+        → MeetsPlain l s c me k write (writeRun b l w k (c .range .start) (c .range .end) (c .text))
     unfolding takes refuses writeRun
     write-meets e = plain-settled b l w c me k write (rw e refl) f (inside w k (c .range .start) (c .range .end)) _
         stop-is (λ z. write-does (ends-within z))

@@ -84,12 +84,12 @@ module _ {b l w : List ℕ} {c : Call} {me k : ℕ} (A : OwnAsks b l w c me k) w
       read-asks P (held read e refl) buffer (transfer-ordered (c .range) (f .0))
       (short (c .range) (f .0)) (omega (arith, leb-true Limit.buffer (c .buffer) (f .1)))
 
-  pub write-asked : op (c .number) ≡ write → WriteAsks b l w (c .bytes) k (c .range .start) (c .range .end)
+  pub write-asked : op (c .number) ≡ write → WriteAsks b l w (c .text) k (c .range .start) (c .range .end)
   unfolding presents argumentsFit
   write-asked e =
-      let f = all2 (transferFits (c .range)) (eqb (length (c .bytes)) (c .range .end - c .range .start))
+      let f = all2 (transferFits (c .range)) (eqb (length (c .text)) (c .range .end - c .range .start))
       (fits c write e (A .late .range)) in
-      write-asks P (held write e refl) (c .bytes) (transfer-ordered (c .range) (f .0))
+      write-asks P (held write e refl) (c .text) (transfer-ordered (c .range) (f .0))
       (eqb-true _ _ (f .1))
 
   pub info-asked : op (c .number) ≡ capInfo → InfoAsks w k
@@ -116,13 +116,13 @@ module _ {b l w : List ℕ} {c : Call} {me k : ℕ} (A : OwnAsks b l w c me k) w
   unfolding presents
   lock-asked e = lock-asks P (held applyLock e refl)
 
-  pub send-short : op (c .number) ≡ send → length (c .bytes) ≤ Limit.message
+  pub send-short : op (c .number) ≡ send → length (c .text) ≤ Limit.message
   unfolding argumentsFit
   send-short e = leb-true _ _ (fits c send e (A .late .range))
 
-  pub send-asked : op (c .number) ≡ send → SendAsks b l w (c .bytes) me k
+  pub send-asked : op (c .number) ≡ send → SendAsks b l w (c .text) me k
   unfolding presents
-  send-asked e = send-asks P (c .bytes) (A .late .caller) (held send e refl) (send-short e)
+  send-asked e = send-asks P (c .text) (A .late .caller) (held send e refl) (send-short e)
 
   pub receive-asked : (buffer : List ℕ) → length buffer ≡ c .buffer → op (c .number) ≡ receive
       → ReceiveAsks b w buffer me

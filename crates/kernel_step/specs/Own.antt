@@ -19,7 +19,7 @@ use Rattle.call_rename.specs.Runs.{renameRun}
 unfoldable pub ownRun : List ℕ → List ℕ → List ℕ → Call → ℕ → ℕ → Op → Ran
 ownRun b l w c me k makeObj = makeRun b l w (c .name) (c .size) (c .flag) (c .rights) (c .drawn)
 ownRun b l w c me k read = readRun b l w k (c .range .start) (c .range .end)
-ownRun b l w c me k write = writeRun b l w k (c .range .start) (c .range .end) (c .bytes)
+ownRun b l w c me k write = writeRun b l w k (c .range .start) (c .range .end) (c .text)
 ownRun b l w c me k capInfo = infoRun b l w k
 ownRun b l w c me k deriveCap = deriveRun b l w k (c .rights) (c .range) (c .drawn)
 ownRun b l w c me k deleteCap = deleteRun b l w k
@@ -29,7 +29,7 @@ ownRun b l w c me k deposit = depositRun b l w me k (c .sum)
 ownRun b l w c me k suspend = suspendedRun b l w k 1
 ownRun b l w c me k resume = suspendedRun b l w k 0
 ownRun b l w c me k applyLock = lockRun b l w k (c .lock)
-ownRun b l w c me k send = sendRun b l w (c .bytes) me k (c .sum)
+ownRun b l w c me k send = sendRun b l w (c .text) me k (c .sum)
 ownRun b l w c me k receive = receiveRun b l w me
 ownRun b l w c me k wait = waitRun b l w me
 ownRun b l w c me k revive = reviveRun b l w me k (c .sum)

@@ -183,7 +183,7 @@ module _ {m : Maps} (s t : State) (S : Formed s) (T : Formed t) (A : CarriedBy m
     write-alike : Alike (writeDoes s c me k) (writeDoes t c me′ k′)
     unfolding writeDoes written
     write-alike = done-alike (bytes-at A once o o′ here there _ _
-        (ap (λ b. take (c .range .start) b ++ c .bytes ++ drop (c .range .end) b) same-bytes))
+        (ap (λ b. take (c .range .start) b ++ c .text ++ drop (c .range .end) b) same-bytes))
 
     info-alike : Alike (capInfoDoes s c me k) (capInfoDoes t c me′ k′)
     unfolding capInfoDoes tells
@@ -355,7 +355,7 @@ module _ {m : Maps} (s t : State) (S : Formed s) (T : Formed t) (A : CarriedBy m
     send-alike =
         let a = spent A once me me′ who me-is (c .sum) (c .sum) refl in
         let b = box-at a once o o′ here there _ _
-        (ap (λ (x : List Message). x ++ record { bytes = c .bytes; sum = c .sum } ∷ []) same-box) in
+        (ap (λ (x : List Message). x ++ record { bytes = c .text; sum = c .sum } ∷ []) same-box) in
         done-alike (waiting b once o o′ here there false)
 
     revive-alike : Alike (reviveDoes s c me k) (reviveDoes t c me′ k′)

@@ -132,7 +132,7 @@ module _ (s : State) (G : Formed s) (c : Call) (me k : ℕ) where
   aimed S e = record { live = G .caps .live k (S .lives) .owned; process = not-is-false (s .object o .process) e }
 
   written-length : (b : List ℕ) → c .range .start ≤ c .range .end → c .range .end ≤ length b
-      → length (c .bytes) ≡ c .range .end - c .range .start → length (written s c me k b) ≡ length b
+      → length (c .text) ≡ c .range .end - c .range .start → length (written s c me k b) ≡ length b
   unfolding written
   written-length b p q e = simp (length-append, length-take, length-drop) (omega arith)
 
@@ -143,7 +143,7 @@ module _ (s : State) (G : Formed s) (c : Call) (me k : ℕ) where
       let u : Window = c .range in
       let w : Window = s .cap k .window in
       let n : ℕ = u .end - u .start in
-      let a = all3 (leb (u .start) (u .end)) (leb n 256) (eqb (length (c .bytes)) n) (r .fits) in
+      let a = all3 (leb (u .start) (u .end)) (leb n 256) (eqb (length (c .text)) n) (r .fits) in
       let b = all2 (leb (w .start) (u .start)) (leb (u .end) (w .end)) (not-is-false (liesIn u w) (r .none .0)) in
       let e = end-size s G k (r .shown refl .lives) in
       let d : u .end ≤ w .end = leb-true _ _ (b .1) in
@@ -170,7 +170,7 @@ module _ (s : State) (G : Formed s) (c : Call) (me k : ℕ) where
   unfolding sendDoes done message spend withCash withBox setWaiting withMarks argumentsFit refuses sendRefuses _when_
       presents
   keep-send r =
-      let m : Message = record { bytes = c .bytes; sum = c .sum } in
+      let m : Message = record { bytes = c .text; sum = c .sum } in
       let v : List Message = s .box o ++ m ∷ [] in
       let p = aimed (r .shown refl) (r .none .0) in
       let S = sound-spend (sound-of G) me (r .who) (c .sum) in

@@ -28,7 +28,7 @@ pub record Call : Type 0 where
   pub sum : ℕ
   pub lock : Lockword
   -- write's data, send's message
-  pub bytes : List ℕ
+  pub text : List ℕ
   -- the lengths of the answer buffer and of the scratch
   pub buffer : ℕ
   pub scratch : ℕ

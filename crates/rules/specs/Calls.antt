@@ -84,7 +84,7 @@ module _ (s : State) (c : Call) (me k : ℕ) where
   readDoes = handsOver 0 (take (c .range .end - c .range .start) (drop (c .range .start) (s .bytes target))) s
 
   unfoldable pub written : List ℕ → List ℕ
-  written bytes = take (c .range .start) bytes ++ c .bytes ++ drop (c .range .end) bytes
+  written bytes = take (c .range .start) bytes ++ c .text ++ drop (c .range .end) bytes
 
   unfoldable pub writeDoes : Outcome
   writeDoes = done (withBytes s (at (s .bytes) target (written (s .bytes target))))
@@ -199,7 +199,7 @@ module _ (s : State) (c : Call) (me k : ℕ) where
       ∷ []
 
   unfoldable pub message : Message
-  message = record { bytes = c .bytes; sum = c .sum }
+  message = record { bytes = c .text; sum = c .sum }
 
   -- the sum travels in the message; the target's waiting mark clears
   unfoldable pub sendDoes : Outcome

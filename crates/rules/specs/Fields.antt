@@ -7,11 +7,11 @@ use lib.Dec.{eqb}
 use Rattle.rules.specs.Rights.{Op, makeObj, read, write, capInfo, deriveCap, deleteCap, renameObj, withdraw}
 use Rattle.rules.specs.Rights.{deposit, suspend, resume, applyLock, send, receive, wait, revive, unknown}
 
--- what a number of a line says; `bytes` says all from its place on
+-- what a number of a line says; `text`, the bytes of write and send, all from its place on
 pub data Field : Type 0 where
   callNumber callerVolume callerSerial : Field
   capVolume capSerial capP1 capP2 : Field
-  volume size flag rights serial p1 p2 start end sum word1 word2 bytes : Field
+  volume size flag rights serial p1 p2 start end sum word1 word2 text : Field
 
 -- a call holds derive's mask where it holds make_obj's rights
 abbrev pub mask : Field
@@ -31,7 +31,7 @@ presenting arguments = calling (capVolume ∷ capSerial ∷ capP1 ∷ capP2 ∷ 
 unfoldable pub fields : Op → List Field
 fields makeObj = calling (volume ∷ size ∷ flag ∷ rights ∷ serial ∷ p1 ∷ p2 ∷ [])
 fields read = presenting (start ∷ end ∷ [])
-fields write = presenting (start ∷ end ∷ bytes ∷ [])
+fields write = presenting (start ∷ end ∷ text ∷ [])
 fields capInfo = presenting []
 fields deriveCap = presenting (mask ∷ start ∷ end ∷ p1 ∷ p2 ∷ [])
 fields deleteCap = presenting []
@@ -41,7 +41,7 @@ fields deposit = presenting (sum ∷ [])
 fields suspend = presenting []
 fields resume = presenting []
 fields applyLock = presenting (word1 ∷ word2 ∷ [])
-fields send = presenting (sum ∷ bytes ∷ [])
+fields send = presenting (sum ∷ text ∷ [])
 fields receive = calling []
 fields wait = calling []
 fields revive = presenting (sum ∷ [])
@@ -71,7 +71,7 @@ index end = 15
 index sum = 16
 index word1 = 17
 index word2 = 18
-index bytes = 19
+index text = 19
 
 -- the place of a field where the first of these has place k
 unfoldable pub placeFrom : ℕ → List Field → Field → ℕ

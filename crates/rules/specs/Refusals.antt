@@ -49,7 +49,7 @@ scratchFits c = leb Limit.scratch (c .scratch)
 unfoldable pub argumentsFit : Op → Call → Bool
 argumentsFit makeObj c = nameFits (c .name) && leb (c .size) Limit.size && leb (c .flag) 1 && leb (c .rights) Limit.rights
 argumentsFit read c = transferFits (c .range) && bufferFits c
-argumentsFit write c = transferFits (c .range) && eqb (length (c .bytes)) (c .range .end - c .range .start)
+argumentsFit write c = transferFits (c .range) && eqb (length (c .text)) (c .range .end - c .range .start)
 argumentsFit capInfo c = true
 argumentsFit deriveCap c = leb (c .rights) Limit.rights && ordered (c .range)
 argumentsFit deleteCap c = scratchFits c
@@ -59,7 +59,7 @@ argumentsFit deposit c = true
 argumentsFit suspend c = true
 argumentsFit resume c = true
 argumentsFit applyLock c = ltb (c .lock .first) Limit.top
-argumentsFit send c = leb (length (c .bytes)) Limit.message
+argumentsFit send c = leb (length (c .text)) Limit.message
 argumentsFit receive c = bufferFits c
 argumentsFit wait c = true
 argumentsFit revive c = true

@@ -28,7 +28,7 @@ use Rattle.rules.specs.Refusals.{caller}
 use Rattle.rules.specs.Calls.{emptied}
 use Rattle.rules.specs.Rule.{rule}
 use Rattle.rules.specs.Fields.{Field, callerVolume, callerSerial, capVolume, capSerial, capP1, capP2, volume, size, flag}
-use Rattle.rules.specs.Fields.{rights, serial, p1, p2, start, end, sum, word1, word2, bytes, fields, place}
+use Rattle.rules.specs.Fields.{rights, serial, p1, p2, start, end, sum, word1, word2, text, fields, place}
 
 -- ---- a line: call number, caller's volume and serial, the capability (volume, serial, p1, p2) where one is presented,
 -- then arguments; `fields` says which
@@ -44,16 +44,16 @@ areBytes l = not (any (λ b. ltb Limit.byte b) l)
 -- a line of the call has as many numbers as fields, or, where it goes on with bytes, the numbers before them and bytes
 unfoldable pub lineFits : Op → List ℕ → Bool
 lineFits o [] = false
-lineFits o (n ∷ l) = elim (eqb (place o bytes) 0) [
+lineFits o (n ∷ l) = elim (eqb (place o text) 0) [
   | true ↦ eqb (length (n ∷ l)) (length (fields o))
-  | false ↦ leb (place o bytes) (length (n ∷ l)) && areBytes (drop (place o bytes) (n ∷ l))
+  | false ↦ leb (place o text) (length (n ∷ l)) && areBytes (drop (place o text) (n ∷ l))
 ]
 
 -- the number at a field's place; 0 where the line does not have the field
 unfoldable pub numberAt : List ℕ → ℕ → ℕ
 numberAt l p = elim (eqb p 0) [ true ↦ 0 | false ↦ nth l p ]
 
--- the numbers from the place of `bytes` on
+-- the numbers from the place of `text` on
 unfoldable pub bytesAt : List ℕ → ℕ → List ℕ
 bytesAt l p = elim (eqb p 0) [ true ↦ [] | false ↦ drop p l ]
 
@@ -78,7 +78,7 @@ callOf o l = record {
   range = record { start = said o l start; end = said o l end };
   sum = said o l sum;
   lock = record { first = said o l word1; second = said o l word2 };
-  bytes = bytesAt l (place o bytes);
+  text = bytesAt l (place o text);
   buffer = Limit.buffer;
   scratch = Limit.scratch;
 }

@@ -34,7 +34,7 @@ makes = record {
   range = noWindow;
   sum = 0;
   lock = noLockword;
-  bytes = [];
+  text = [];
   buffer = Limit.buffer;
   scratch = Limit.scratch;
 }

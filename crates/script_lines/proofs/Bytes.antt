@@ -12,7 +12,7 @@ use lib.Seq.{drop-cons, getD-drop}
 use borrow.Author.Tests.{lt-ltb, le-ltb, le-leb, lt-leb, ltb-true, ltb-false, leb-true}
 use Rattle.rules.specs.Slots.{any}
 use Rattle.rules.specs.Rights.{op}
-use Rattle.rules.specs.Fields.{bytes, place}
+use Rattle.rules.specs.Fields.{text, place}
 use Rattle.rules.specs.Script.{nth, areBytes}
 use Rattle.rules.proofs.Tests.{by-bool, pick-yes, pick-not, all2}
 use Rattle.script_lines.proofs.Calls.{fits-none, before-bytes}
@@ -74,8 +74,8 @@ bytes-from l from i e low h =
 
 -- ---- a line that goes on with bytes
 
-pub line-bytes : (l text : List ℕ) (a : ℕ) → LineAsks l text → a ≡ place (op (nth l 0)) bytes → a ≢ 0 → BytesFrom l a text
-line-bytes l text a asks e h =
+pub line-bytes : (l out : List ℕ) (a : ℕ) → LineAsks l out → a ≡ place (op (nth l 0)) text → a ≢ 0 → BytesFrom l a out
+line-bytes l out a asks e h =
     let some : length l ≢ 0 = λ z. false≢true (sym (fits-none (op (nth l 0)) l z) ∙ asks .fits) in
     let f = all2 (leb a (length l)) (areBytes (drop a l))
     (ap (λ (k : ℕ). leb k (length l) && areBytes (drop k l)) e

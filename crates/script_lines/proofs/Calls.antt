@@ -9,7 +9,7 @@ use lib.Dec.{eqb, leb}
 use lib.ListN.{length, drop}
 use borrow.Author.Tests.{eq-eqb, ne-eqb}
 use Rattle.rules.specs.Rights.{Op}
-use Rattle.rules.specs.Fields.{bytes, fields, place}
+use Rattle.rules.specs.Fields.{text, fields, place}
 use Rattle.rules.specs.Script.{nth, areBytes, lineFits, numberAt, bytesAt, callOf}
 use Rattle.rules.proofs.Tests.{pick-yes, pick-not}
 use Rattle.script_lines.specs.Lists.{Front}
@@ -32,40 +32,40 @@ unfolding lineFits
 fits-none o [] e = refl
 fits-none o (n ∷ l) e = absurd (omega arith)
 
-pub fits-exactly : (o : Op) (l : List ℕ) (a b : ℕ) → length l ≢ 0 → a ≡ place o bytes → a ≡ 0 → b ≡ length (fields o)
+pub fits-exactly : (o : Op) (l : List ℕ) (a b : ℕ) → length l ≢ 0 → a ≡ place o text → a ≡ 0 → b ≡ length (fields o)
     → eqb (length l) b ≡ lineFits o l
 unfolding lineFits
 fits-exactly o [] a b h e z f = absurd (h refl)
 fits-exactly o (n ∷ l) a b h e z f =
     ap (eqb (length (n ∷ l))) f
-    ∙ sym (pick-yes (eqb (place o bytes) 0) _ _ (eq-eqb (place o bytes) 0 (sym e ∙ z)))
+    ∙ sym (pick-yes (eqb (place o text) 0) _ _ (eq-eqb (place o text) 0 (sym e ∙ z)))
 
 -- numbers before the bytes
-pub before-bytes : (o : Op) (l : List ℕ) → length l ≢ 0 → place o bytes ≢ 0
-    → (leb (place o bytes) (length l) && areBytes (drop (place o bytes) l)) ≡ lineFits o l
+pub before-bytes : (o : Op) (l : List ℕ) → length l ≢ 0 → place o text ≢ 0
+    → (leb (place o text) (length l) && areBytes (drop (place o text) l)) ≡ lineFits o l
 unfolding lineFits
 before-bytes o [] h e = absurd (h refl)
-before-bytes o (n ∷ l) h e = sym (pick-not (eqb (place o bytes) 0) _ _ (ne-eqb (place o bytes) 0 e))
+before-bytes o (n ∷ l) h e = sym (pick-not (eqb (place o text) 0) _ _ (ne-eqb (place o text) 0 e))
 
-pub fits-or-more : (o : Op) (l : List ℕ) (a : ℕ) (r : Bool) → length l ≢ 0 → a ≡ place o bytes → a ≢ 0
+pub fits-or-more : (o : Op) (l : List ℕ) (a : ℕ) (r : Bool) → length l ≢ 0 → a ≡ place o text → a ≢ 0
     → r ≡ (leb a (length l) && areBytes (drop a l)) → r ≡ lineFits o l
 fits-or-more o l a r h e n is =
     is ∙ ap (λ (k : ℕ). leb k (length l) && areBytes (drop k l)) e ∙ before-bytes o l h (λ z. n (e ∙ z))
 
 -- ---- the bytes of a line
 
-pub no-front : (o : Op) (l out : List ℕ) (a : ℕ) → a ≡ place o bytes → a ≡ 0 → Front (callOf o l .bytes) out 0
+pub no-front : (o : Op) (l out : List ℕ) (a : ℕ) → a ≡ place o text → a ≡ 0 → Front (callOf o l .text) out 0
 unfolding bytesAt callOf
 no-front o l out a e z = record {
-  is = sym (pick-yes (eqb (place o bytes) 0) _ _ (eq-eqb (place o bytes) 0 (sym e ∙ z)));
+  is = sym (pick-yes (eqb (place o text) 0) _ _ (eq-eqb (place o text) 0 (sym e ∙ z)));
   within = omega arith;
 }
 
-pub bytes-front : (o : Op) (l out : List ℕ) (a r : ℕ) → a ≡ place o bytes → a ≢ 0 → Front (drop a l) out r
-    → Front (callOf o l .bytes) out r
+pub bytes-front : (o : Op) (l out : List ℕ) (a r : ℕ) → a ≡ place o text → a ≢ 0 → Front (drop a l) out r
+    → Front (callOf o l .text) out r
 unfolding bytesAt callOf
 bytes-front o l out a r e n f = record {
   is = f .is ∙ ap (λ (k : ℕ). drop k l) e
-      ∙ sym (pick-not (eqb (place o bytes) 0) _ _ (ne-eqb (place o bytes) 0 (λ z. n (e ∙ z))));
+      ∙ sym (pick-not (eqb (place o text) 0) _ _ (ne-eqb (place o text) 0 (λ z. n (e ∙ z))));
   within = f .within;
 }

@@ -5,8 +5,8 @@ ghost use lib.Dec.{leb};
 ghost use lib.ListN.{length, drop};
 ghost use Rattle.rules.specs.Rights.{op};
 ghost use Rattle.rules.specs.Script.{areBytes, lineFits, nth};
-use crate::table::BYTES;
 use crate::table::LENGTH;
+use crate::table::TEXT;
 use crate::table::column;
 use crate::table::wide;
 use values::limit::MAX_BYTE;
@@ -53,7 +53,7 @@ pub fn line_fits(numbers: &[u32]) -> bool
         return false;
     }
     let call = column(numbers[0]);
-    let bytes = wide(BYTES[call]);
+    let bytes = wide(TEXT[call]);
     if bytes == 0 {
         return numbers.len() == wide(LENGTH[call]);
     }

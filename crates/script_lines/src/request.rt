@@ -24,9 +24,9 @@ fn number_at(numbers: &[u32], place: u8) -> u32
     nth(numbers, wide(place))
 }
 
-// The request that a line says; the bytes of write and send are in `bytes_of`.
+// The request that a line says; the bytes of write and send are in `text_of`.
 pub fn request_of(numbers: &[u32]) -> Request
-    ensures { λ r. ⌜ callOf r (Script·callOf (op (nth (now (numbers .entry)) 0)) (now (numbers .entry)) .bytes)
+    ensures { λ r. ⌜ callOf r (Script·callOf (op (nth (now (numbers .entry)) 0)) (now (numbers .entry)) .text)
         Limit.buffer Limit.scratch
         ≡ Script·callOf (op (nth (now (numbers .entry)) 0)) (now (numbers .entry)) ⌝ }
 {

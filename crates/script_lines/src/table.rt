@@ -41,9 +41,9 @@ pub(crate) const WORD1: [u8; 17] = [0, 0, 0, 0, 0, 0, 0, 0, 0, 0, 0, 0, 7, 0, 0,
 
 pub(crate) const WORD2: [u8; 17] = [0, 0, 0, 0, 0, 0, 0, 0, 0, 0, 0, 0, 8, 0, 0, 0, 0];
 
-pub(crate) const BYTES: [u8; 17] = [0, 0, 0, 9, 0, 0, 0, 0, 0, 0, 0, 0, 0, 8, 0, 0, 0];
+pub(crate) const TEXT: [u8; 17] = [0, 0, 0, 9, 0, 0, 0, 0, 0, 0, 0, 0, 0, 8, 0, 0, 0];
 
-// How many fields the line has, the bytes counted as one.
+// How many fields the line has, the text counted as one.
 pub(crate) const LENGTH: [u8; 17] = [0, 10, 9, 10, 7, 12, 7, 9, 8, 8, 7, 7, 9, 9, 3, 3, 8];
 
 // The column of a call number.

@@ -5,7 +5,7 @@ ghost use Rattle.rules.specs.Rights.{op};
 ghost use Rattle.rules.specs.Script.{nth, callOf};
 ghost use Rattle.script_lines.specs.Lists.{Front, BytesFrom, LineAsks};
 use crate::fits::nth;
-use crate::table::BYTES;
+use crate::table::TEXT;
 use crate::table::column;
 use crate::table::wide;
 
@@ -25,12 +25,12 @@ fn copy_bytes(numbers: &[u32], from: usize, text: &mut [u8]) -> usize
 }
 
 // The bytes of a line that goes on with bytes, into the front of `text`, and how many they are; no other line has any.
-pub fn bytes_of(numbers: &[u32], text: &mut [u8]) -> usize
+pub fn text_of(numbers: &[u32], text: &mut [u8]) -> usize
     requires { ⌜ LineAsks (now numbers) (now text) ⌝ }
-    ensures { λ r. ⌜ Front (callOf (op (nth (now (numbers .entry)) 0)) (now (numbers .entry)) .bytes) (now (text .exit)) r ⌝ }
+    ensures { λ r. ⌜ Front (callOf (op (nth (now (numbers .entry)) 0)) (now (numbers .entry)) .text) (now (text .exit)) r ⌝ }
 {
     let call = column(nth(numbers, 0));
-    let from = wide(BYTES[call]);
+    let from = wide(TEXT[call]);
     if from == 0 {
         return 0;
     }

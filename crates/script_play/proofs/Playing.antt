@@ -50,13 +50,13 @@ line-number o l = refl
 
 -- its request is its call
 same-call : (q : Request) (ns text buffer scratch : List ℕ)
-    → callOf q (lineCall (op (nth ns 0)) ns .bytes) 256 512 ≡ lineCall (op (nth ns 0)) ns
-    → text ≡ lineCall (op (nth ns 0)) ns .bytes → length buffer ≡ 256 → length scratch ≡ 512
+    → callOf q (lineCall (op (nth ns 0)) ns .text) 256 512 ≡ lineCall (op (nth ns 0)) ns
+    → text ≡ lineCall (op (nth ns 0)) ns .text → length buffer ≡ 256 → length scratch ≡ 512
     → callOf q text (length buffer) (length scratch) ≡ lineCall (op (nth ns 0)) ns
 same-call q ns text buffer scratch asked t b s = rw (t, b, s) asked
 
 same-number : (q : Request) (ns : List ℕ)
-    → callOf q (lineCall (op (nth ns 0)) ns .bytes) 256 512 ≡ lineCall (op (nth ns 0)) ns
+    → callOf q (lineCall (op (nth ns 0)) ns .text) 256 512 ≡ lineCall (op (nth ns 0)) ns
     → q .number ≡ nth ns 0
 unfolding callOf
 same-number q ns asked = ap (λ (c : Call). c .number) asked ∙ line-number (op (nth ns 0)) ns
@@ -70,8 +70,8 @@ counted {r = r} {is = is} st size =
 
 pub good-played : (q : Request) (r : Reply) (ns text b l w buffer scratch b′ l′ w′ buffer′ scratch′ out out′ : List ℕ) (number at n : ℕ)
     → lineFits (op (nth ns 0)) ns ≡ true
-    → callOf q (lineCall (op (nth ns 0)) ns .bytes) 256 512 ≡ lineCall (op (nth ns 0)) ns
-    → text ≡ lineCall (op (nth ns 0)) ns .bytes → length buffer ≡ 256 → length scratch ≡ 512
+    → callOf q (lineCall (op (nth ns 0)) ns .text) 256 512 ≡ lineCall (op (nth ns 0)) ns
+    → text ≡ lineCall (op (nth ns 0)) ns .text → length buffer ≡ 256 → length scratch ≡ 512
     → Stepped q text r (slices b l w buffer scratch) (slices b′ l′ w′ buffer′ scratch′)
     → Put ANSWER out at (lineOf (number ∷ answerOf (op (q .number)) (replyAnswer r (take (r .count) buffer′)))) out′ n
     → Played ns number b l w b′ l′ w′ out at out′ n

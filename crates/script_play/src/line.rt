@@ -10,7 +10,7 @@ use kernel_step::step;
 use script_answers::answer::answer_line;
 use script_lines::fits::line_fits;
 use script_lines::request::request_of;
-use script_lines::text::bytes_of;
+use script_lines::text::text_of;
 use script_text::read::read_line;
 use script_text::write::put_line;
 
@@ -41,7 +41,7 @@ fn good_line(
         (now (bytes .exit)) (now (links .exit)) (now (words .exit)) (now (out .entry)) at (now (out .exit)) r ⌝ }
 {
     let req = request_of(numbers);
-    let n = bytes_of(numbers, text);
+    let n = text_of(numbers, text);
     let reply = step(bytes, links, words, &text[..n], buffer, scratch, req);
     answer_line(out, at, number, req.number, reply, buffer)
 }

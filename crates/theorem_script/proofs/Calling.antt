@@ -68,10 +68,10 @@ requestOf c = record {
 }
 
 same-call : (c : Call) (buffer scratch : ℕ) → buffer ≡ c .buffer → scratch ≡ c .scratch
-    → Request.callOf (requestOf c) (c .bytes) buffer scratch ≡ c
+    → Request.callOf (requestOf c) (c .text) buffer scratch ≡ c
 unfolding requestOf Request.callOf
-same-call c buffer scratch b s = ap (λ (n : ℕ). Request.callOf (requestOf c) (c .bytes) n scratch) b
-    ∙ ap (λ (n : ℕ). Request.callOf (requestOf c) (c .bytes) (c .buffer) n) s
+same-call c buffer scratch b s = ap (λ (n : ℕ). Request.callOf (requestOf c) (c .text) n scratch) b
+    ∙ ap (λ (n : ℕ). Request.callOf (requestOf c) (c .text) (c .buffer) n) s
 
 replyOf : Answer → Reply
 replyOf a = record {
@@ -116,7 +116,7 @@ module _ {k : ℕ} {s s′ : Store} {ns out : List ℕ} (W : Formed s) (p : Play
   event : Event
   event = record {
     request = requestOf c;
-    text = c .bytes;
+    text = c .text;
     buffer = buffer;
     scratch = scratch;
     reply = replyOf a;

@@ -1,6 +1,6 @@
 -- `line_fits` is the rules' `lineFits`, by the table.
 use mathlib.Core.Path.{sym, _∙_}
-use Rattle.rules.specs.Fields.{bytes}
+use Rattle.rules.specs.Fields.{text}
 use Rattle.script_lines.specs.Table as Table
 use Rattle.script_lines.proofs.Rows.{place-in, length-in}
 use Rattle.script_lines.proofs.Calls.{fits-none, fits-exactly, fits-or-more}
@@ -33,7 +33,7 @@ returns-2 : tie.Need-returns-2
 unfolding Table.computes
 returns-2 c =
     let e = c .before .before .before .column .ensures .1 in
-    fits-exactly _ _ _ _ (c .before .before .before .before .before .if1 .left) (c .before .before .wide .ensures ∙ place-in bytes _ _ e) (c .before .if2 .taken)
+    fits-exactly _ _ _ _ (c .before .before .before .before .before .if1 .left) (c .before .before .wide .ensures ∙ place-in text _ _ e) (c .before .if2 .taken)
     (c .wide2 .ensures ∙ length-in _ _ e)
 
 ends-in-bytes-requires : tie.Need-ends-in-bytes-requires
@@ -43,7 +43,7 @@ returns-3 : tie.Need-returns-3
 unfolding Table.computes
 returns-3 c =
     let e = c .before .before .before .column .ensures .1 in
-    fits-or-more _ _ _ _ (c .before .before .before .before .before .if1 .left) (c .before .before .wide .ensures ∙ place-in bytes _ _ e) (c .before .if2 .left)
+    fits-or-more _ _ _ _ (c .before .before .before .before .before .if1 .left) (c .before .before .wide .ensures ∙ place-in text _ _ e) (c .before .if2 .left)
     (c .ends-in-bytes .ensures)
 
 pub line-fits-spec : {M : Type 1} → statement M

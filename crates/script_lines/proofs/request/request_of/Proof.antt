@@ -149,7 +149,7 @@ returns c =
       range = record { start = said-in start _ _ _ _ e (c .before .before .before .before .number-at14 .ensures) i; end = said-in end _ _ _ _ e (c .before .before .before .number-at15 .ensures) i };
       sum = said-in sum _ _ _ _ e (c .before .before .number-at16 .ensures) i;
       lock = record { first = said-in word1 _ _ _ _ e (c .before .number-at17 .ensures) i; second = said-in word2 _ _ _ _ e (c .number-at18 .ensures) i };
-      bytes = Script·callOf (op (nth l 0)) l .bytes;
+      text = Script·callOf (op (nth l 0)) l .text;
       buffer = Limit.buffer;
       scratch = Limit.scratch;
     }

@@ -9,14 +9,14 @@ use Rattle.script_play.proofs.line.good_line.Tie as tie
 request-of-requires : tie.Need-request-of-requires
 request-of-requires c κs = search needs
 
-bytes-of-requires : tie.Need-bytes-of-requires
-bytes-of-requires c κs = search needs
+text-of-requires : tie.Need-text-of-requires
+text-of-requires c κs = search needs
 
 slice-reshare-prefix-step : tie.Need-slice-reshare-prefix-step
 slice-reshare-prefix-step c = search needs
 
 slice-aggregate-step : tie.Need-slice-aggregate-step
-slice-aggregate-step c = sym (length-take-le _ _ (c .before .before .before .before .before .before .bytes-of .ensures .within))
+slice-aggregate-step c = sym (length-take-le _ _ (c .before .before .before .before .before .before .text-of .ensures .within))
 
 step-requires : tie.Need-step-requires
 step-requires c κs = c .before .before .before .before .before .before .before .before .before .before .before .before .before .before .before .before .before .before .before .pre .asks .play .formed
@@ -37,7 +37,7 @@ same-length-3 : tie.Need-same-length-3
 same-length-3 c = search needs
 
 same-length-4 : tie.Need-same-length-4
-same-length-4 c = c .before .before .before .before .before .before .before .before .before .before .before .before .before .before .before .before .before .before .before .before .before .before .before .before .bytes-of .kept .1 .0
+same-length-4 c = c .before .before .before .before .before .before .before .before .before .before .before .before .before .before .before .before .before .before .before .before .before .before .before .before .text-of .kept .1 .0
 
 same-length-5 : tie.Need-same-length-5
 same-length-5 c = search needs
@@ -51,7 +51,7 @@ same-length-7 c = search needs
 returns : tie.Need-returns
 returns c =
     let a = c .before .before .before .before .before .before .before .before .before .before .before .before .before .before .before .before .before .before .before .before .before .before .before .before .before .before .before .before .before .before .before .before .before .before .before in
-    good-played _ _ _ _ _ _ _ _ _ _ _ _ _ _ _ _ _ _ _ (a .pre .fits) (c .before .before .before .before .before .before .before .before .before .before .before .before .before .before .before .before .before .before .before .before .before .before .before .before .before .before .request-of .ensures) (c .before .before .before .before .before .before .before .before .before .before .before .before .before .before .before .before .before .before .before .before .before .before .before .before .bytes-of .ensures .is)
+    good-played _ _ _ _ _ _ _ _ _ _ _ _ _ _ _ _ _ _ _ (a .pre .fits) (c .before .before .before .before .before .before .before .before .before .before .before .before .before .before .before .before .before .before .before .before .before .before .before .before .before .before .request-of .ensures) (c .before .before .before .before .before .before .before .before .before .before .before .before .before .before .before .before .before .before .before .before .before .before .before .before .text-of .ensures .is)
     (a .pre .asks .lent .buffer) (a .pre .asks .lent .scratch) (c .before .before .before .before .before .before .before .before .before .before .before .before .before .before .before .step .ensures) (c .before .before .answer-line .ensures)
 
 pub good-line-spec : {M : Type 1} → statement M
@@ -59,7 +59,7 @@ good-line-spec =
     tie.close
     (tie.spec
     request-of-requires
-    bytes-of-requires
+    text-of-requires
     slice-reshare-prefix-step
     slice-aggregate-step
     step-requires

@@ -1,14 +1,14 @@
--- `bytes_of` copies what the line has from the place of its bytes on.
+-- `text_of` copies what the line has from the place of its bytes on.
 use mathlib.Core.Path.{ap, _∙_}
 use Rattle.rules.specs.Rights.{op}
-use Rattle.rules.specs.Fields.{bytes}
+use Rattle.rules.specs.Fields.{text}
 use Rattle.script_lines.specs.Table as Table
 use Rattle.script_lines.proofs.Rows.{place-in}
 use Rattle.script_lines.proofs.Bytes.{line-bytes}
 use Rattle.script_lines.proofs.Calls.{no-front, bytes-front}
 use borrow.Author.Needs.{needs}
-use Rattle.script_lines.proofs.text.bytes_of.Statement.{statement}
-use Rattle.script_lines.proofs.text.bytes_of.Tie as tie
+use Rattle.script_lines.proofs.text.text_of.Statement.{statement}
+use Rattle.script_lines.proofs.text.text_of.Tie as tie
 
 nth-requires : tie.Need-nth-requires
 nth-requires c κs = search needs
@@ -26,13 +26,13 @@ returns : tie.Need-returns
 unfolding Table.computes
 returns c =
     let e = c .before .before .column .ensures .1 ∙ ap op (c .before .before .before .nth .ensures) in
-    no-front _ _ _ _ (c .before .wide .ensures ∙ place-in bytes _ _ e) (c .if1 .taken)
+    no-front _ _ _ _ (c .before .wide .ensures ∙ place-in text _ _ e) (c .if1 .taken)
 
 copy-bytes-requires : tie.Need-copy-bytes-requires
 unfolding Table.computes
 copy-bytes-requires c κs =
     let e = c .before .before .before .column .ensures .1 ∙ ap op (c .before .before .before .before .nth .ensures) in
-    line-bytes _ _ _ (c .before .before .before .before .before .before .before .pre) (c .before .before .wide .ensures ∙ place-in bytes _ _ e) (c .before .if1 .left)
+    line-bytes _ _ _ (c .before .before .before .before .before .before .before .pre) (c .before .before .wide .ensures ∙ place-in text _ _ e) (c .before .if1 .left)
 
 same-length : tie.Need-same-length
 same-length c = search needs
@@ -41,10 +41,10 @@ returns-2 : tie.Need-returns-2
 unfolding Table.computes
 returns-2 c =
     let e = c .before .before .before .before .before .before .column .ensures .1 ∙ ap op (c .before .before .before .before .before .before .before .nth .ensures) in
-    bytes-front _ _ _ _ _ (c .before .before .before .before .before .wide .ensures ∙ place-in bytes _ _ e) (c .before .before .before .before .if1 .left) (c .before .before .copy-bytes .ensures)
+    bytes-front _ _ _ _ _ (c .before .before .before .before .before .wide .ensures ∙ place-in text _ _ e) (c .before .before .before .before .if1 .left) (c .before .before .copy-bytes .ensures)
 
-pub bytes-of-spec : {M : Type 1} → statement M
-bytes-of-spec =
+pub text-of-spec : {M : Type 1} → statement M
+text-of-spec =
     tie.close
     (tie.spec
     nth-requires
