@@ -55,12 +55,12 @@ moved-line {g} {g′} {m} {m′} {l} {out} e f d =
 
 -- ---- a line
 
-pub one-bad : {s : Store} {line out : List ℕ} {run : Run} → run .bad ≡ true → Formed s
-    → OneLine s line out run s out (record { number = run .number; bad = true; count = 0; at = run .at })
-one-bad {s} {line} {out} {run} e f = record {
+pub one-bad : {s : Store} {line out : List ℕ} {at number : ℕ} {bad : Bool} → bad ≡ true → Formed s
+    → OneLine s line out at number bad s out (record { number = number; bad = true; count = 0; at = at })
+one-bad {s} {line} {out} {at} {number} {bad} e f = record {
   text = [];
-  is = moved-line (at-closed (run .number) (run .bad) s e) (at-closed (run .number) true s refl) (closed-line line);
-  wrote = wrote-none out (run .at);
+  is = moved-line (at-closed number bad s e) (at-closed number true s refl) (closed-line line);
+  wrote = wrote-none out at;
   few = omega arith;
   formed = f;
   counted = omega arith;
@@ -90,27 +90,26 @@ first-refused {b′ = b′} {l′} {w′} {r = r} h y f = record {
   place = refl;
 }
 
-pub one-first : {s s′ : Store} {line out : List ℕ} {run r : Run} → run .bad ≡ false → run .number ≡ 0
-    → FirstLine line (run .at) s′ r → OneLine s line out run s′ out r
-one-first {s} {s′} {line} {out} {run} {r} e z h = record {
+pub one-first : {s s′ : Store} {line out : List ℕ} {at number : ℕ} {bad : Bool} {r : Run} → bad ≡ false → number ≡ 0
+    → FirstLine line at s′ r → OneLine s line out at number bad s′ out r
+one-first {s} {s′} {line} {out} {at} {number} {bad} e z h = record {
   text = [];
-  is = moved-line (at-opening (run .number) (run .bad) s e z) refl (h .is);
-  wrote = subst (λ (k : ℕ). Wrote out (run .at) [] out k) (sym (h .place)) (wrote-none out (run .at));
+  is = moved-line (at-opening number bad s e z) refl (h .is);
+  wrote = subst (λ (k : ℕ). Wrote out at [] out k) (sym (h .place)) (wrote-none out at);
   few = omega arith;
   formed = h .formed;
   counted = omega (arith, h .counted);
   none = h .none;
 }
 
-pub one-later : {b l w b′ l′ w′ line out out′ : List ℕ} {run : Run} {p : ℕ} → run .bad ≡ false → (run .number ≡ 0 → ⊥)
-    → Plays line (run .number) b l w b′ l′ w′ out (run .at) out′ p
-    → OneLine (store b l w) line out run (store b′ l′ w′) out′ (record { number = run .number + 1; bad = false; count = 0; at = p })
-one-later {b} {l} {w} {b′} {l′} {w′} {line} {out} {out′} {run} {p} e n h =
+pub one-later : {b l w b′ l′ w′ line out out′ : List ℕ} {at number p : ℕ} {bad : Bool} → bad ≡ false → (number ≡ 0 → ⊥)
+    → Plays line number b l w b′ l′ w′ out at out′ p
+    → OneLine (store b l w) line out at number bad (store b′ l′ w′) out′ (record { number = number + 1; bad = false; count = 0; at = p })
+one-later {b} {l} {w} {b′} {l′} {w′} {line} {out} {out′} {at} {number} {p} {bad} e n h =
     let x = later-line h in record {
       text = x .text;
-      is = moved-line (at-playing (run .number) (run .bad) (store b l w) e n)
-          (at-playing (run .number + 1) false (store b′ l′ w′) refl (λ z. omega arith)
-          ∙ ap (λ k. playing k (store b′ l′ w′)) (add-one (run .number))) (x .is);
+      is = moved-line (at-playing number bad (store b l w) e n)
+          (at-playing (number + 1) false (store b′ l′ w′) refl (λ z. omega arith) ∙ ap (λ k. playing k (store b′ l′ w′)) (add-one number)) (x .is);
       wrote = x .wrote;
       few = omega (arith, x .few);
       formed = h .played .formed;
@@ -168,9 +167,9 @@ hold-is held part back z rest count n size few e b =
 
 -- ---- a line of which bytes are held
 
-as-line : {s s′ : Store} {l m out out′ : List ℕ} {run r : Run}
+as-line : {s s′ : Store} {l m out out′ : List ℕ} {at number : ℕ} {bad : Bool} {r : Run}
     → ((g q : At stores) (t : List ℕ) → Line stores g l t q → Line stores g m t q)
-    → OneLine s l out run s′ out′ r → OneLine s m out run s′ out′ r
+    → OneLine s l out at number bad s′ out′ r → OneLine s m out at number bad s′ out′ r
 as-line f x = record {
   text = x .text;
   is = f _ _ (x .text) (x .is);
@@ -182,14 +181,14 @@ as-line f x = record {
 }
 
 pub ended-whole : {s s′ : Store} {held part out out′ : List ℕ} {run r : Run} → run .count ≡ 0
-    → length held ≡ HELD → OneLine s part out run s′ out′ r → EndedLine s held part out run s′ held out′ r
+    → length held ≡ HELD → OneLine s part out (run .at) (run .number) (run .bad) s′ out′ r → EndedLine s held part out run s′ held out′ r
 ended-whole {held = held} {part = part} z size x = record {
   one = as-line (λ g q t d. subst (λ (l : List ℕ). Line stores g l t q) (ap (λ k. cut (take k held ++ part)) (sym z)) (line-whole d)) x;
   size = size;
 }
 
 pub ended-held : {s s′ : Store} {held held′ part out out′ : List ℕ} {n : ℕ} {run r : Run}
-    → Holds held (run .count) part held′ n → length held′ ≡ HELD → OneLine s (take n held′) out run s′ out′ r
+    → Holds held (run .count) part held′ n → length held′ ≡ HELD → OneLine s (take n held′) out (run .at) (run .number) (run .bad) s′ out′ r
     → EndedLine s held part out run s′ held′ out′ r
 ended-held h size x = record {
   one = as-line (λ g q t d. subst (λ (l : List ℕ). Line stores g l t q) (h .is) d) x;
@@ -344,7 +343,7 @@ finish-none {s} {held} {q = q} a z p long = record {
 }
 
 pub finish-last : {s s′ : Store} {held out mid out′ : List ℕ} {r : ℕ} {q x : Run}
-    → Contract.FinishAsks s held (runOf q) out (q .at) → (q .count ≡ 0 → ⊥) → OneLine s (take (q .count) held) out q s′ mid x
+    → Contract.FinishAsks s held (runOf q) out (q .at) → (q .count ≡ 0 → ⊥) → OneLine s (take (q .count) held) out (q .at) (q .number) (q .bad) s′ mid x
     → EndPut s′ mid x out′ r → length out′ ≡ length mid → length mid ≡ length out
     → Contract.Finishing s held (runOf q) out (q .at) s′ out′ r
 finish-last {held = held} {q = q} a z d p long same = record {
@@ -357,5 +356,5 @@ finish-last {held = held} {q = q} a z d p long same = record {
 }
 
 pub end-room : {s s′ : Store} {held line out mid : List ℕ} {q x : Run}
-    → Contract.FinishAsks s held (runOf q) out (q .at) → OneLine s line out q s′ mid x → length mid ≡ length out → EndAsks s′ mid (x .at)
+    → Contract.FinishAsks s held (runOf q) out (q .at) → OneLine s line out (q .at) (q .number) (q .bad) s′ mid x → length mid ≡ length out → EndAsks s′ mid (x .at)
 end-room a d same = record { formed = d .formed; room = omega (arith, d .wrote .end, d .few, a .room) }

@@ -1,6 +1,7 @@
 -- The contracts of the parts of a turn and of the end of the input.
 use Prim.Native.Nat.{ℕ, zero, suc, _+_, _-_, _≤_}
 use mathlib.Core.Path.{_≡_}
+use mathlib.Core.Bool.{Bool}
 use mathlib.Core.List.{List, [], _++_}
 use lib.ListN.{length, take, drop}
 use Rattle.script_text.specs.Lines.{mostNumbers}
@@ -9,7 +10,7 @@ use Rattle.script_answers.specs.Room.{TOTALS}
 use Rattle.script_driver.specs.Turns.{opening, Line, Closes, HELD, ANSWER, cut}
 use Rattle.script_driver.specs.Stores.{Store, Formed, stores}
 use Rattle.script_driver.specs.Contract as Contract
-use Rattle.script_driver.specs.Contract.{LAST, stageOf}
+use Rattle.script_driver.specs.Contract.{LAST, stageBy, stageOf}
 use Rattle.script_driver.specs.declared.Run.{Run}
 use Rattle.script_driver.specs.declared.Fed.{Fed}
 
@@ -46,28 +47,28 @@ pub record FirstLine (line : List ℕ) (at : ℕ) (s′ : Store) (r : Run) : Typ
   pub none : r .count ≡ 0
   pub place : r .at ≡ at
 
-pub record LineAsks (s : Store) (out : List ℕ) (run : Run) : Type 0 where
+pub record LineAsks (s : Store) (out : List ℕ) (at number : ℕ) : Type 0 where
   pub formed : Formed s
-  pub room : run .at + ANSWER ≤ length out
-  pub counted : run .number + 1 ≤ LAST
+  pub room : at + ANSWER ≤ length out
+  pub counted : number + 1 ≤ LAST
 
 -- r is the run after it, which holds nothing
-pub record OneLine (s : Store) (line out : List ℕ) (run : Run) (s′ : Store) (out′ : List ℕ) (r : Run) : Type 0 where
+pub record OneLine (s : Store) (line out : List ℕ) (at number : ℕ) (bad : Bool) (s′ : Store) (out′ : List ℕ) (r : Run) : Type 0 where
   pub text : List ℕ
-  pub is : Line stores (stageOf (runOf run) s) line text (stageOf (runOf r) s′)
-  pub wrote : Wrote out (run .at) text out′ (r .at)
+  pub is : Line stores (stageBy number bad s) line text (stageOf (runOf r) s′)
+  pub wrote : Wrote out at text out′ (r .at)
   pub few : length text ≤ ANSWER
   pub formed : Formed s′
-  pub counted : r .number ≤ run .number + 1
+  pub counted : r .number ≤ number + 1
   pub none : r .count ≡ 0
 
 -- a line whose first bytes are held
 pub record EndedAsks (s : Store) (held out : List ℕ) (run : Run) : Type 0 where
-  pub line : LineAsks s out run
+  pub line : LineAsks s out (run .at) (run .number)
   pub hold : HoldAsks held (run .count)
 
 pub record EndedLine (s : Store) (held part out : List ℕ) (run : Run) (s′ : Store) (held′ out′ : List ℕ) (r : Run) : Type 0 where
-  pub one : OneLine s (cut (take (run .count) held ++ part)) out run s′ out′ r
+  pub one : OneLine s (cut (take (run .count) held ++ part)) out (run .at) (run .number) (run .bad) s′ out′ r
   pub size : length held′ ≡ HELD
 
 -- ---- the end of the input

@@ -135,7 +135,9 @@ pub fn finish(
         scratch,
         &held[..run.count],
         out,
-        run,
+        run.at,
+        run.number,
+        run.bad,
     );
     put_end(bytes, links, words, out, last)
 }

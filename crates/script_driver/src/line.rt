@@ -68,15 +68,15 @@ pub fn one_line(
     scratch: &mut [u16],
     line: &[u8],
     out: &mut [u8],
-    run: Run,
+    at: usize,
+    number: u64,
+    bad: bool,
 ) -> Run
-    requires { ⌜ LineAsks (store (now bytes) (now links) (now words)) (now out) run ⌝ ∗ ⌜ Working (now numbers) (now text) (now buffer) (now scratch) ⌝ }
-    ensures { λ r. ⌜ OneLine (store (now (bytes .entry)) (now (links .entry)) (now (words .entry))) (now (line .entry)) (now (out .entry)) run
+    requires { ⌜ LineAsks (store (now bytes) (now links) (now words)) (now out) at number ⌝ ∗ ⌜ Working (now numbers) (now text) (now buffer) (now scratch) ⌝ }
+    ensures { λ r. ⌜ OneLine (store (now (bytes .entry)) (now (links .entry)) (now (words .entry))) (now (line .entry)) (now (out .entry)) at number bad
         (store (now (bytes .exit)) (now (links .exit)) (now (words .exit))) (now (out .exit)) r ⌝ }
 {
-    let number = run.number;
-    let at = run.at;
-    if run.bad {
+    if bad {
         return Run {
             number,
             bad: true,
@@ -137,7 +137,9 @@ pub fn ended(
             scratch,
             part,
             out,
-            run,
+            run.at,
+            run.number,
+            run.bad,
         );
     }
     let n = hold(held, run.count, part);
@@ -151,6 +153,8 @@ pub fn ended(
         scratch,
         &held[..n],
         out,
-        run,
+        run.at,
+        run.number,
+        run.bad,
     )
 }
