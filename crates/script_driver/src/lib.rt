@@ -105,7 +105,7 @@ pub fn feed(
     }
 }
 
-// "Line one .. if bad or absent, `0 2` is all it writes"; else "last `T`" and the totals.
+// "Line one .. if bad or absent, `0 2` is all it writes"; else "Last `T`" and the totals.
 fn put_end(
     bytes: &[u8],
     links: &[u16],
