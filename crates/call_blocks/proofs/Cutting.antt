@@ -10,7 +10,7 @@ use lib.ListN.{getD, set}
 use Rattle.layout.specs.Layout as Layout
 use Rattle.layout.specs.Rows.{nextBlockOf}
 use Rattle.layout.proofs.Field.{field-in}
-use Rattle.call_blocks.specs.Taking.{freeHead, freeBlock, lastFree, tooFew, takenLinks, Enough}
+use Rattle.call_blocks.specs.Taking.{freeHead, freeBlock, lastTaken, tooFew, takenLinks, Enough}
 use Rattle.call_blocks.proofs.Hops.{hop-block}
 
 pub few-none : (l : List ℕ) (n : ℕ) → n ≡ 0 → false ≡ tooFew l n
@@ -27,8 +27,8 @@ few-some l (suc n) h r e =
 
 -- ---- the last of the n blocks
 
-pub last-free : (l : List ℕ) (n : ℕ) → n ≢ 0 → lastFree l n ≡ freeBlock l (n - 1)
-unfolding lastFree
+pub last-free : (l : List ℕ) (n : ℕ) → n ≢ 0 → lastTaken l n ≡ freeBlock l (n - 1)
+unfolding lastTaken
 last-free l zero h = absurd (h refl)
 last-free l (suc m) h =
     let p : m ≡ suc m - 1 = omega arith in

@@ -8,11 +8,11 @@ use lib.ListN.{length}
 use Rattle.rules.specs.Slots.{at, sumOver}
 use Rattle.rules.specs.Store.{blocks}
 use Rattle.rules.proofs.Tests.{by-eq}
-use Rattle.rules.proofs.Slots.{at-here, at-else}
+use Rattle.rules.proofs.Slots.{at-here, at-else, sum-but}
 use Rattle.layout.specs.Layout as Layout
 use Rattle.layout.specs.Rows.{masterOf, sizeOf, firstBlockOf, nextBlockOf}
 use Rattle.layout.specs.Shape.{times, HasBlocks, BlockChains, Blocks}
-use Rattle.layout.proofs.Linking.{sum-put, sum-one, times-append, chain-low, chain-high, chain-frame}
+use Rattle.layout.proofs.Linking.{sum-one, times-append, chain-low, chain-high, chain-frame}
 use Rattle.call_blocks.specs.Taking.{freeHead, takenLinks}
 use Rattle.call_blocks.proofs.Splitting.{Split}
 use Rattle.call_blocks.proofs.Taken.{taken-first, taken-split, last-of}
@@ -81,7 +81,7 @@ module _ (l : List ℕ) (long : length l ≡ Layout.LINKS) (o : ℕ) (low : 1 �
     once k p r =
         omega (
           arith,
-          sum-put 64 (λ q. times k (B .chain q)) (λ q. times k (at (B .chain) o (S .front) q)) o low high
+          sum-but 64 (λ q. times k (B .chain q)) (λ q. times k (at (B .chain) o (S .front) q)) o low high
               (λ q ne. ap (times k) (at-else (B .chain) o (S .front) q ne)),
           ap (times k) (B .chains o low high .dead dead),
           ap (times k) (at-here (B .chain) o (S .front)),

@@ -10,7 +10,7 @@ use Rattle.layout.specs.Rows.{nextBlockOf}
 use Rattle.layout.specs.Shape.{Chain}
 use Rattle.layout.proofs.Field.{field-out}
 use Rattle.call_blocks.specs.Walk.{hop, Blocked}
-use Rattle.call_blocks.specs.Taking.{freeHead, freeBlock, lastFree, zeroed, dataFrom, cleared, FreeChain, Enough}
+use Rattle.call_blocks.specs.Taking.{freeHead, freeBlock, lastTaken, zeroed, dataFrom, cleared, FreeChain, Enough}
 use Rattle.call_blocks.proofs.Hops.{hop-last, hop-high}
 
 -- after 0 comes 0
@@ -48,22 +48,22 @@ module _ {next : ℕ → ℕ} {block : ℕ} where
 -- i blocks are passed: block is the next, last the last of them
 pub record Passing (l : List ℕ) (i block last : ℕ) : Type 0 where
   pub here : block ≡ freeBlock l i
-  pub passed : last ≡ lastFree l i
+  pub passed : last ≡ lastTaken l i
 
 pub passing-none : (l : List ℕ) (k : ℕ) → k ≡ freeHead l → Passing l 0 k 0
-unfolding hop lastFree
+unfolding hop lastTaken
 passing-none l k e = record { here = e; passed = refl }
 
 pub passing-more : {l : List ℕ} {i block last : ℕ} → Passing l i block last → (k : ℕ) → k ≡ nextBlockOf l block
     → Passing l (i + 1) k block
-unfolding lastFree
+unfolding lastTaken
 passing-more {l} {i} {block} p k e = rw (add-one i) (record {
   here = e ∙ ap (nextBlockOf l) (p .here) ∙ sym (hop-last (nextBlockOf l) i (freeHead l));
   passed = p .here;
 })
 
-pub passing-all : {l : List ℕ} {n i block last : ℕ} → Passing l i block last → i ≡ n → last ≡ lastFree l n
-passing-all {l} p e = p .passed ∙ ap (lastFree l) e
+pub passing-all : {l : List ℕ} {n i block last : ℕ} → Passing l i block last → i ≡ n → last ≡ lastTaken l n
+passing-all {l} p e = p .passed ∙ ap (lastTaken l) e
 
 -- ---- zeros
 

@@ -20,9 +20,9 @@ abbrev pub freeBlock : List ℕ → ℕ → ℕ
 freeBlock l n = hop (nextBlockOf l) n (freeHead l)
 
 -- the last of the first n free blocks, 0 where n is 0
-unfoldable pub lastFree : List ℕ → ℕ → ℕ
-lastFree l zero = 0
-lastFree l (suc m) = freeBlock l m
+unfoldable pub lastTaken : List ℕ → ℕ → ℕ
+lastTaken l zero = 0
+lastTaken l (suc m) = freeBlock l m
 
 -- 01, "too few free blocks": there is no n-th
 unfoldable pub tooFew : List ℕ → ℕ → Bool

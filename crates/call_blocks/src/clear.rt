@@ -4,7 +4,7 @@ ghost use mathlib.Core.Path.{_≡_};
 ghost use lib.ListN.{length};
 ghost use Rattle.rules.specs.Limit;
 ghost use Rattle.layout.specs.Layout;
-ghost use Rattle.call_blocks.specs.Taking.{zeroed, dataFrom, clearedBytes, lastFree, Enough};
+ghost use Rattle.call_blocks.specs.Taking.{zeroed, dataFrom, clearedBytes, lastTaken, Enough};
 use crate::chain::free_head;
 use crate::chain::next_block;
 use layout::DATA;
@@ -26,7 +26,7 @@ fn clear_block(bytes: &mut [u8], k: usize)
 pub fn clear(bytes: &mut [u8], links: &[u16], n: usize) -> usize
     requires { ⌜ length (now bytes) ≡ Layout.BYTES ⌝ ∗ ⌜ Enough (now links) n ⌝ }
     ensures { λ r. ⌜ now (bytes .exit) ≡ clearedBytes (now (bytes .entry)) (now (links .entry)) n ⌝
-        ∗ ⌜ r ≡ lastFree (now (links .entry)) n ⌝ }
+        ∗ ⌜ r ≡ lastTaken (now (links .entry)) n ⌝ }
 {
     let mut block = free_head(links);
     let mut last: usize = 0;

@@ -19,7 +19,7 @@ use Rattle.call_steps.specs.declared.request.Reply.{Reply}
 use Rattle.call_steps.specs.Run.{over}
 use Rattle.call_steps.specs.Replies.{Gives}
 use Rattle.call_steps.proofs.Replying.{gives-code, done-is}
-use Rattle.call_prune.specs.Links.{prunedLinks, deletedLinks, Living, Child}
+use Rattle.call_prune.specs.Links.{prunedLinks, deletedLinks, LivingCap, Child}
 use Rattle.call_prune.proofs.Pruning.{Pruning}
 use Rattle.call_prune.proofs.Measuring.{pruned}
 use Rattle.call_prune.proofs.Clearing.{scratch-done}
@@ -29,7 +29,7 @@ use Rattle.call_ending.proofs.Requires.{end-asks}
 use Rattle.call_delete.specs.Runs.{masterLinks, masterWords, deleteRun, DeleteAsks, MasterAsks, MasterEnds, Deletes}
 
 module _ {b l w : List ℕ} {k : ℕ} (a : DeleteAsks b l w k) where
-  pub living : Living l k
+  pub living : LivingCap l k
   living = record { links = a .sized .links; shape = a .shape; live = a .held .live }
 
   pub parent-cell : parentOf l k ≡ getD l (Layout.PARENT + k) 0

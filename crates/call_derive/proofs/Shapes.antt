@@ -8,11 +8,11 @@ use lib.ListN.{length, getD}
 use Rattle.rules.specs.Slots.{at, sumOver}
 use Rattle.rules.specs.Store.{Cap}
 use Rattle.rules.proofs.Tests.{by-eq}
-use Rattle.rules.proofs.Slots.{at-here, at-else}
+use Rattle.rules.proofs.Slots.{at-here, at-else, sum-but}
 use Rattle.layout.specs.Layout as Layout
 use Rattle.layout.specs.Rows.{masterOf, ownerOf, parentOf, firstChildOf, nextCapOf}
 use Rattle.layout.specs.Shape.{Forest, nil, node, count, times, SoundIn, TreeOf, Caps, Shape}
-use Rattle.layout.proofs.Linking.{sum-put, apart-in}
+use Rattle.layout.proofs.Linking.{apart-in}
 use Rattle.layout.proofs.Shaped.{CapShaped, of-tree, shaped}
 use Rattle.layout.proofs.Standing.{stands, stands-once, stands-only}
 use Rattle.layout.proofs.FreeCaps.{FirstFree, first-free, rest-owner, rest-other, rest-chain}
@@ -111,7 +111,7 @@ module _ (l : List ℕ) (c : Caps l) (k : ℕ) (alive : ownerOf l k ≢ 0) (S : 
         let one-k : count k (c .tree o) ≡ 1 = omega (arith, here, stands-once l c o (S .owner-low) (S .owner-high) k) in
         omega (
           arith,
-          sum-put 64 (λ p. count j (c .tree p)) (λ p. count j (trees p)) o (S .owner-low) (S .owner-high)
+          sum-but 64 (λ p. count j (c .tree p)) (λ p. count j (trees p)) o (S .owner-low) (S .owner-high)
               (λ p ne. ap (count j) (at-else (c .tree) o own p ne)),
           ap (count j) (at-here (c .tree) o own),
           grown-count k i j (c .tree o) one-k,

@@ -7,10 +7,10 @@ use native.Mathlib.Omega.{arith}
 use lib.ListN.{length}
 use Rattle.rules.specs.Slots.{sumOver, at}
 use Rattle.rules.proofs.Tests.{by-eq}
-use Rattle.rules.proofs.Slots.{at-here, at-else}
+use Rattle.rules.proofs.Slots.{at-here, at-else, sum-but}
 use Rattle.layout.specs.Shape.{Chain, times, HasBlocks, BlockChains}
 use Rattle.layout.proofs.Counts.{one-same}
-use Rattle.layout.proofs.Linking.{sum-put, sum-two, sum-one, times-append, chain-low, chain-high, chain-frame}
+use Rattle.layout.proofs.Linking.{sum-two, sum-one, times-append, chain-low, chain-high, chain-frame}
 use Rattle.layout.proofs.Joining.{chain-join}
 use Rattle.call_blocks.specs.Walk.{hop}
 
@@ -59,7 +59,7 @@ module _ (m size first next : ℕ → ℕ) (head : ℕ) (b : BlockChains m size 
     unfolding times
     total k = omega (
       arith,
-      sum-put 64 (λ i. times k (b .chain i)) (λ i. times k (new i)) o low high
+      sum-but 64 (λ i. times k (b .chain i)) (λ i. times k (new i)) o low high
           (λ i ne. ap (times k) (at-else (b .chain) o [] i ne)),
       ap (times k) (at-here (b .chain) o []),
     )

@@ -8,10 +8,10 @@ use native.Mathlib.Omega.{arith}
 use lib.Dec.{eqb}
 use Rattle.rules.specs.Slots.{one, sumOver, at}
 use Rattle.rules.proofs.Tests.{by-eq}
-use Rattle.rules.proofs.Slots.{at-here, at-else}
+use Rattle.rules.proofs.Slots.{at-here, at-else, sum-but}
 use Rattle.layout.specs.Shape.{Chain, times, Forest, nil, node, count, Sound, HasTree, CapTrees}
 use Rattle.layout.proofs.Counts.{one-same, one-other}
-use Rattle.layout.proofs.Linking.{sum-put, sum-two, sum-one, chain-frame, SameLinks, sound-frame}
+use Rattle.layout.proofs.Linking.{sum-two, sum-one, chain-frame, SameLinks, sound-frame}
 
 -- a chain that ends at once is empty
 none-below : (owner above first next back : ℕ → ℕ) (o p q h : ℕ) (F : Forest)
@@ -107,7 +107,7 @@ module _ (m owner above first next back : ℕ → ℕ) (head : ℕ) (s : CapTree
   unfolding count
   total k = omega (
     arith,
-    sum-put 64 (λ i. count k (s .tree i)) (λ i. count k (new i)) o low high
+    sum-but 64 (λ i. count k (s .tree i)) (λ i. count k (new i)) o low high
         (λ i ne. ap (count k) (at-else (s .tree) o nil i ne)),
     ap (count k) (at-here (s .tree) o nil),
     counted k,

@@ -20,7 +20,7 @@ use Rattle.call_grow.specs.Made.{freeCap, newLinks, newWords, Makes}
 use Rattle.call_grow.specs.Made as Grow
 use Rattle.call_make.specs.Runs.{freeObject, noSpace, makeStop}
 use Rattle.call_make.specs.Runs.{recordBytes, recordLinks, masterCap, madeBytes, objectLinks}
-use Rattle.call_make.specs.Runs.{madeLinks, madeWords, made, makeRun, HoldAsks, Holds, Records}
+use Rattle.call_make.specs.Runs.{madeLinks, madeWords, made, makeRun, HoldAsks, TakesBlocks, Records}
 use Rattle.call_make.specs.Runs.{PlaceAsks, Places, MakeAsks}
 use Rattle.call_make.proofs.Rows.{words-long, recorded}
 use Rattle.call_make.proofs.Stops.{space-is, stop-name, stop-space, stop-none}
@@ -31,7 +31,7 @@ pub hold-enough : {b l : List ℕ} {o size : ℕ} → HoldAsks b l o size → (n
 hold-enough {b} {l} a n e = subst (Enough l) (sym e) (a .enough)
 
 pub holds-is : (b l : List ℕ) (o size n : ℕ) → n ≡ blocks size → (b′ l′ : List ℕ) → b′ ≡ clearedBytes b l n
-    → l′ ≡ takenLinks l o n → Holds b l o size b′ l′
+    → l′ ≡ takenLinks l o n → TakesBlocks b l o size b′ l′
 holds-is b l o size n e b′ l′ p q = record {
   bytes = p ∙ ap (clearedBytes b l) e;
   links = q ∙ ap (takenLinks l o) e;
@@ -40,7 +40,7 @@ holds-is b l o size n e b′ l′ p q = record {
 -- ---- the record, and the master
 
 module _ {b l w : List ℕ} {o : ℕ} {name : Name} {size flag rights : ℕ} (a : PlaceAsks b l w o name size flag rights)
-    {b₁ l₁ : List ℕ} (H : Holds b l o size b₁ l₁)
+    {b₁ l₁ : List ℕ} (H : TakesBlocks b l o size b₁ l₁)
     {b₂ l₂ w₂ : List ℕ} (R : Records b₁ l₁ w o name size flag (freeCap l) b₂ l₂ w₂) where
   links-are : l₂ ≡ objectLinks l o (blocks size) (name .serial) size (freeCap l)
   unfolding objectLinks

@@ -6,10 +6,10 @@ use mathlib.Core.List.{List}
 use native.Mathlib.Omega.{arith}
 use Rattle.rules.specs.Slots.{at, sumOver}
 use Rattle.rules.proofs.Tests.{by-eq}
-use Rattle.rules.proofs.Slots.{at-here, at-else}
+use Rattle.rules.proofs.Slots.{at-here, at-else, sum-but}
 use Rattle.layout.specs.Rows.{masterOf, ownerOf, parentOf, firstChildOf, nextCapOf, prevCapOf}
 use Rattle.layout.specs.Shape.{times, Forest, nil, node, count, Sound, CapTrees, TreeOf, Caps}
-use Rattle.layout.proofs.Linking.{sum-put, SameLinks, sound-frame}
+use Rattle.layout.proofs.Linking.{SameLinks, sound-frame}
 use Rattle.layout.proofs.FreeCaps.{FirstFree, rest-other, rest-owner, rest-chain}
 
 -- the rows of l′ are those of l, but the record in slot i, which is a master of object o, and o's master
@@ -83,7 +83,7 @@ module _ (l l′ : List ℕ) (o i : ℕ) (low : 1 ≤ o) (high : o ≤ 64) (s : 
   once k p r =
       omega (
         arith,
-        sum-put 64 (λ q. count k (s .tree q)) (λ q. count k (tree q)) o low high
+        sum-but 64 (λ q. count k (s .tree q)) (λ q. count k (tree q)) o low high
             (λ q ne. ap (count k) (at-else (s .tree) o (node i nil nil) q ne)),
         ap (count k) (s .trees o low high .dead dead),
         ap (count k) (at-here (s .tree) o (node i nil nil)),

@@ -128,7 +128,7 @@ pub record MasterAsks (o rights : ℕ) : Type 0 where
   pub rights-fit : rights ≤ Limit.rights
 
 -- r is the master of object o, to be made with no sibling
-pub record IsMaster (o size rights : ℕ) (drawn : Password) (r : NewCap) : Type 0 where
+pub record IsNewMaster (o size rights : ℕ) (drawn : Password) (r : NewCap) : Type 0 where
   pub cap : capOf r ≡ masterCap o size rights drawn
   pub next : r .next ≡ 0
 
@@ -139,7 +139,7 @@ pub record HoldAsks (b l : List ℕ) (o size : ℕ) : Type 0 where
   pub size-fits : size ≤ Limit.size
 
 -- b′ and l′ are what is left of the slices b and l
-pub record Holds (b l : List ℕ) (o size : ℕ) (b′ l′ : List ℕ) : Type 0 where
+pub record TakesBlocks (b l : List ℕ) (o size : ℕ) (b′ l′ : List ℕ) : Type 0 where
   pub bytes : b′ ≡ clearedBytes b l (blocks size)
   pub links : l′ ≡ takenLinks l o (blocks size)
 

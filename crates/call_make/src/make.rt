@@ -2,7 +2,7 @@
 // the rights given."
 ghost use Rattle.values.specs.Words.{passwordOf};
 ghost use Rattle.call_steps.specs.Request.{nameOf};
-ghost use Rattle.call_make.specs.Runs.{MasterAsks, IsMaster, HoldAsks, Holds, RecordAsks, Records, PlaceAsks};
+ghost use Rattle.call_make.specs.Runs.{MasterAsks, IsNewMaster, HoldAsks, TakesBlocks, RecordAsks, Records, PlaceAsks};
 ghost use Rattle.call_make.specs.Runs.{Places};
 use crate::record::record_bytes;
 use crate::record::record_links;
@@ -22,7 +22,7 @@ use values::window::Window;
 // The master of the object in slot o.
 fn master_of(o: usize, size: u32, rights: u32, drawn: [u32; 2]) -> NewCap
     requires { ⌜ MasterAsks o rights ⌝ }
-    ensures { λ r. ⌜ IsMaster o size rights (passwordOf drawn) r ⌝ }
+    ensures { λ r. ⌜ IsNewMaster o size rights (passwordOf drawn) r ⌝ }
 {
     NewCap {
         object: o as u16,
@@ -40,7 +40,7 @@ fn master_of(o: usize, size: u32, rights: u32, drawn: [u32; 2]) -> NewCap
 // The object in slot o takes the blocks that its size needs, all zero.
 fn hold(bytes: &mut [u8], links: &mut [u16], o: usize, size: u32)
     requires { ⌜ HoldAsks (now bytes) (now links) o size ⌝ }
-    ensures { λ _. ⌜ Holds (now (bytes .entry)) (now (links .entry)) o size (now (bytes .exit)) (now (links .exit)) ⌝ }
+    ensures { λ _. ⌜ TakesBlocks (now (bytes .entry)) (now (links .entry)) o size (now (bytes .exit)) (now (links .exit)) ⌝ }
 {
     let n = blocks_of(size) as usize;
     let last = clear(bytes, links, n);

@@ -25,7 +25,7 @@ use Rattle.layout.proofs.Shaped.{shaped}
 use Rattle.layout.proofs.Shown.{cap-none, money-none, cap-shown, parent-is}
 use Rattle.layout.proofs.Frame.{state-is, house-same, object-same, bytes-same, lock-same, cash-same, marks-same}
 use Rattle.layout.proofs.Frame.{box-same, cap-same-at, money-same-at}
-use Rattle.call_prune.specs.Links.{prunedLinks, Living}
+use Rattle.call_prune.specs.Links.{prunedLinks, LivingCap}
 use Rattle.call_prune.proofs.Dropping.{SameRows}
 use Rattle.call_prune.proofs.Shapes.{in-tree}
 use Rattle.call_prune.proofs.Pruning.{Under, Pruning, meets-under}
@@ -144,7 +144,7 @@ module _ {l : List ℕ} {k : ℕ} {l′ : List ℕ} (T : Pruning l k l′ 0) whe
   none-under i h u = none-meets i h refl
       (subst (λ (p : ℕ → ℕ). Climbs p (p i) (u .way)) (sym (T .rows .parents)) (u .climbs)) (u .meets)
 
-module _ {b l w : List ℕ} (W : WellFormed b l w) {k : ℕ} (L : Living l k) where
+module _ {b l w : List ℕ} (W : WellFormed b l w) {k : ℕ} (L : LivingCap l k) where
   abbrev s₀ : State
   s₀ = view b l w
 

@@ -19,16 +19,16 @@ use Rattle.layout.specs.View.{view}
 use Rattle.layout.specs.WellFormed.{WellFormed}
 use Rattle.layout.proofs.Shaped.{shaped}
 use Rattle.layout.proofs.Shown.{cap-lives, parent-is}
-use Rattle.call_prune.specs.Links.{prunedLinks, Living}
+use Rattle.call_prune.specs.Links.{prunedLinks, LivingCap}
 use Rattle.call_prune.proofs.Pruning.{Pruning}
 use Rattle.call_prune.proofs.Measuring.{pruned}
 use Rattle.call_prune.proofs.Ending.{below, rows-sized, rows-cells, below-gone, pruned-view}
 
 -- what the code asks of a living capability
-pub living-of : {b l w : List ℕ} {k : ℕ} → WellFormed b l w → ownerOf l k ≢ 0 → Living l k
+pub living-of : {b l w : List ℕ} {k : ℕ} → WellFormed b l w → ownerOf l k ≢ 0 → LivingCap l k
 living-of W h = record { links = W .sized .links; shape = W .shape; live = h }
 
-module _ {b l w : List ℕ} (W : WellFormed b l w) {k : ℕ} (L : Living l k) where
+module _ {b l w : List ℕ} (W : WellFormed b l w) {k : ℕ} (L : LivingCap l k) where
   abbrev s : State
   s = view b l w
 

@@ -20,7 +20,7 @@ use Rattle.layout.specs.Shape.{Shape}
 use Rattle.layout.proofs.Field.{field-low, field-high}
 use Rattle.layout.proofs.Shaped.{shaped}
 use Rattle.layout.proofs.Shown.{set-yes}
-use Rattle.call_prune.specs.Links.{droppedLinks, turnedLinks, turnedSlot, prunedFrom, prunedLinks, NamesSlots, Living}
+use Rattle.call_prune.specs.Links.{droppedLinks, turnedLinks, turnedSlot, prunedFrom, prunedLinks, NamesSlots, LivingCap}
 use Rattle.call_prune.proofs.Shapes.{placed}
 use Rattle.call_prune.proofs.Dropping.{dropped-rows, dropped-owners}
 use Rattle.call_prune.proofs.Pruning.{Pruning, pruning-start, turn-placed, turn-by, child-parent, child-live, has-parent}
@@ -157,7 +157,7 @@ pub record Turning (l₀ : List ℕ) (k : ℕ) (l : List ℕ) (j : ℕ) : Type 0
   pub enough : left l j ≤ turns
   pub same : prunedLinks l₀ k ≡ prunedFrom turns l k j
 
-pub turning-start : {l : List ℕ} {k : ℕ} → Living l k → Turning l k l k
+pub turning-start : {l : List ℕ} {k : ℕ} → LivingCap l k → Turning l k l k
 unfolding prunedLinks
 turning-start {l} {k} L = record {
   size = L .links;
@@ -197,12 +197,12 @@ pruned-from (suc n) {l₀} {l} {k} {j} z T h = by-eq j 0
     (λ some. rw (from-turn n l k j some)
     (pruned-from n z (pruning-turn z T some) (omega (arith, left-falls z T some))))
 
-pub pruned : {l : List ℕ} {k : ℕ} → Living l k → Pruning l k (prunedLinks l k) 0
+pub pruned : {l : List ℕ} {k : ℕ} → LivingCap l k → Pruning l k (prunedLinks l k) 0
 unfolding prunedLinks
 pruned {l} {k} L = pruned-from 2048 (L .links) (pruning-start L) (left-high l k)
 
 -- k is left in its place
-pub pruned-placed : {l : List ℕ} {k : ℕ} → Living l k → NamesSlots (prunedLinks l k) k
+pub pruned-placed : {l : List ℕ} {k : ℕ} → LivingCap l k → NamesSlots (prunedLinks l k) k
 pruned-placed {l} {k} L =
     let T = pruned L in
     placed (prunedLinks l k) (T .rows .sized ∙ L .links) (T .shape .caps) k (T .live)

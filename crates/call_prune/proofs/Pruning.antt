@@ -15,7 +15,7 @@ use Rattle.layout.specs.Rows.{ownerOf, parentOf, firstChildOf}
 use Rattle.layout.specs.Shape.{Shape}
 use Rattle.layout.proofs.Field.{field-low}
 use Rattle.layout.proofs.Shaped.{shaped}
-use Rattle.call_prune.specs.Links.{droppedLinks, turnedLinks, turnedSlot, NamesSlots, Living}
+use Rattle.call_prune.specs.Links.{droppedLinks, turnedLinks, turnedSlot, NamesSlots, LivingCap}
 use Rattle.call_prune.proofs.Stores.{down-links, down-slot, over-links, over-slot, up-links, up-slot}
 use Rattle.call_prune.proofs.Dropping.{SameRows, rows-same, rows-then, dropped-rows, dropped-owners}
 use Rattle.call_prune.proofs.Shapes.{In, in-tree, placed, dropped-shape}
@@ -75,7 +75,7 @@ pub record Pruning (l₀ : List ℕ) (k : ℕ) (l : List ℕ) (j : ℕ) : Type 0
   -- no turn: k is a leaf
   pub leaf : j ≡ 0 → firstChildOf l k ≡ 0
 
-pub pruning-start : {l : List ℕ} {k : ℕ} → Living l k → Pruning l k l k
+pub pruning-start : {l : List ℕ} {k : ℕ} → LivingCap l k → Pruning l k l k
 pruning-start {l} {k} L = record {
   rows = rows-same l;
   shape = L .shape;

@@ -7,14 +7,14 @@ use native.Mathlib.Omega.{arith}
 use lib.ListN.{length, getD}
 use Rattle.rules.specs.Slots.{at, sumOver}
 use Rattle.rules.proofs.Tests.{by-eq}
-use Rattle.rules.proofs.Slots.{at-here, at-else, at-by}
+use Rattle.rules.proofs.Slots.{at-here, at-else, at-by, sum-but}
 use Rattle.layout.specs.Layout as Layout
 use Rattle.layout.specs.Rows.{masterOf, ownerOf, parentOf, firstChildOf, nextCapOf, prevCapOf}
 use Rattle.layout.specs.Shape.{Chain, times, Forest, nil, node, count, Sound, SoundIn, TreeOf, Caps, Shape}
 use Rattle.layout.proofs.Field.{field-low, field-high}
 use Rattle.layout.proofs.Kept.{objects-kept, blocks-kept}
 use Rattle.layout.proofs.Counts.{one-other, sum-some}
-use Rattle.layout.proofs.Linking.{sum-put, sum-one, sum-two, chain-frame}
+use Rattle.layout.proofs.Linking.{sum-one, sum-two, chain-frame}
 use Rattle.call_prune.specs.Links.{droppedLinks, NamesSlots}
 use Rattle.call_prune.proofs.Around.{Around, around}
 use Rattle.call_prune.proofs.Removing.{without, without-else, without-none, Distinct, without-sound, without-count}
@@ -144,7 +144,7 @@ module _ {l : List ℕ} {j : ℕ} (P : NamesSlots l j) (child : parentOf l j ≢
       omega (
         arith,
         c .once k lo hi,
-        sum-put 64 F G o (I .object-low) (I .object-high) (λ i ne. ap (count k) (at-else (c .tree) o less i ne)),
+        sum-but 64 F G o (I .object-low) (I .object-high) (λ i ne. ap (count k) (at-else (c .tree) o less i ne)),
         ap (count k) (at-here (c .tree) o less),
         without-count (ownerOf l) (parentOf l) (firstChildOf l) (nextCapOf l) (prevCapOf l)
             (ownerOf l′) (parentOf l′) (firstChildOf l′) (nextCapOf l′) (prevCapOf l′) j (parentOf l j) (prevCapOf l j)

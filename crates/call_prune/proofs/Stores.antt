@@ -11,7 +11,7 @@ use Rattle.rules.proofs.Tests.{by-eq, pick-yes, pick-not}
 use Rattle.layout.specs.Layout as Layout
 use Rattle.layout.specs.Rows.{field, parentOf, firstChildOf, nextCapOf, prevCapOf}
 use Rattle.layout.proofs.Field.{field-in}
-use Rattle.call_prune.specs.Links.{namedAt, freedCap, droppedLinks, turnedLinks, turnedSlot, NamesSlots, Turned}
+use Rattle.call_prune.specs.Links.{namedAt, freedCap, droppedLinks, turnedLinks, turnedSlot, NamesSlots, TurnLeaves}
 
 -- ---- the cell that names a capability
 
@@ -107,17 +107,17 @@ module _ {l : List ℕ} {j : ℕ} (P : NamesSlots l j) (k c : ℕ) (e : c ≡ ge
   first-is : firstChildOf l j ≡ c
   first-is = cell P Layout.«FIRST_CHILD» ∙ sym e
 
-  pub turn-down : c ≢ 0 → Turned l k j l c
+  pub turn-down : c ≢ 0 → TurnLeaves l k j l c
   turn-down nz =
       let ne : firstChildOf l j ≢ 0 = λ z. nz (sym first-is ∙ z) in
       record { links-is = sym (down-links l k j ne); slot-is = sym (down-slot l k j ne ∙ first-is) }
 
-  pub turn-over : c ≡ 0 → j ≡ k → Turned l k j l 0
+  pub turn-over : c ≡ 0 → j ≡ k → TurnLeaves l k j l 0
   turn-over z q =
       record { links-is = sym (over-links l k j (first-is ∙ z) q); slot-is = sym (over-slot l k j (first-is ∙ z) q) }
 
   pub turn-up : c ≡ 0 → j ≢ k → (u : ℕ) → u ≡ getD l (Layout.PARENT + j) 0 → (l′ : List ℕ) → l′ ≡ droppedLinks l j
-      → Turned l k j l′ u
+      → TurnLeaves l k j l′ u
   turn-up z n u r l′ d = record {
     links-is = d ∙ sym (up-links l k j (first-is ∙ z) n);
     slot-is = r ∙ sym (cell P Layout.PARENT) ∙ sym (up-slot l k j (first-is ∙ z) n);

@@ -82,17 +82,17 @@ pub record NamesSlots (l : List ℕ) (j : ℕ) : Type 0 where
   pub prev-high : prevCapOf l j ≤ Limit.caps
 
 -- k is a living capability of links of a well-formed store's shape
-pub record Living (l : List ℕ) (k : ℕ) : Type 0 where
+pub record LivingCap (l : List ℕ) (k : ℕ) : Type 0 where
   pub links : length l ≡ Layout.LINKS
   pub shape : Shape l
   pub live : ownerOf l k ≢ 0
 
 -- that, and it has a parent
 pub record Child (l : List ℕ) (k : ℕ) : Type 0 where
-  pub living : Living l k
+  pub living : LivingCap l k
   pub parent : parentOf l k ≢ 0
 
 -- one turn at slot j leaves the links l′ and goes on at slot r
-pub record Turned (l : List ℕ) (k j : ℕ) (l′ : List ℕ) (r : ℕ) : Type 0 where
+pub record TurnLeaves (l : List ℕ) (k j : ℕ) (l′ : List ℕ) (r : ℕ) : Type 0 where
   pub links-is : l′ ≡ turnedLinks l k j
   pub slot-is : r ≡ turnedSlot l k j

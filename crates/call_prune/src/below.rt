@@ -1,7 +1,7 @@
 // All descendants of a capability end. No stack is needed: down by first children to a leaf, which ends, and on at its
 // parent, until the capability is a leaf itself.
 ghost use mathlib.Core.Path.{_≡_};
-ghost use Rattle.call_prune.specs.Links.{prunedLinks, NamesSlots, Living, Turned};
+ghost use Rattle.call_prune.specs.Links.{prunedLinks, NamesSlots, LivingCap, TurnLeaves};
 use crate::leaf::drop_leaf;
 use layout::FIRST_CHILD;
 use layout::PARENT;
@@ -10,7 +10,7 @@ use layout::slot;
 // One turn at slot j: down to its first child, or up from it once it has ended; 0 where k itself is a leaf.
 fn turn(links: &mut [u16], k: usize, j: usize) -> usize
     requires { ⌜ NamesSlots (now links) j ⌝ }
-    ensures { λ r. ⌜ Turned (now (links .entry)) k j (now (links .exit)) r ⌝ }
+    ensures { λ r. ⌜ TurnLeaves (now (links .entry)) k j (now (links .exit)) r ⌝ }
 {
     let child = slot(links[FIRST_CHILD + j]);
     if child != 0 {
@@ -26,7 +26,7 @@ fn turn(links: &mut [u16], k: usize, j: usize) -> usize
 
 // Ends all below k, and leaves k alive.
 pub fn prune_below(links: &mut [u16], k: usize)
-    requires { ⌜ Living (now links) k ⌝ }
+    requires { ⌜ LivingCap (now links) k ⌝ }
     ensures { λ _. ⌜ now (links .exit) ≡ prunedLinks (now (links .entry)) k ⌝ }
 {
     let mut j = k;

@@ -1,18 +1,18 @@
 -- What the two calls require, in a well-formed store: the climb ends, and what a withdrawal adds to the caller's cash
 -- fits, by 01's "the money total is at most 4,294,967,295", since that cash and the master's moneyword are parts of it.
-use Prim.Native.Nat.{ℕ, zero, suc, _+_, _≤_}
+use Prim.Native.Nat.{ℕ, _+_, _≤_}
 use mathlib.Core.Path.{_≡_, _∙_}
 use mathlib.Core.Bool.{true, false}
 use mathlib.Core.List.{List}
 use native.Mathlib.Omega.{arith}
 use lib.Dec.{ltb, eqb}
 use borrow.Author.Tests.{eq-eqb, ltb-false}
-use Rattle.rules.specs.Slots.{sumOver}
 use Rattle.rules.specs.Store.{State, path, rootOf, allCash, allMasters, moneyIn}
 use Rattle.rules.specs.Valid.{Lives, Valid}
-use Rattle.rules.proofs.Tests.{by-eq, pick-yes}
+use Rattle.rules.proofs.Tests.{pick-yes}
 use Rattle.rules.proofs.Climbs.{any-none}
 use Rattle.rules.proofs.Forest.{descends-one, master-above, master-top, master-lives}
+use Rattle.layout.proofs.Linking.{sum-one}
 use Rattle.layout.specs.Rows.{cashOf}
 use Rattle.layout.specs.View.{view}
 use Rattle.layout.specs.WellFormed.{Plain}
@@ -22,14 +22,6 @@ use Rattle.call_purse.specs.declared.way.Way.the-variants.{Out}
 use Rattle.call_purse.specs.Climb.{stops, climbStops}
 use Rattle.call_purse.specs.Calls.{Payable, Withdrawable}
 use Rattle.call_purse.proofs.Reaching.{cash-is, climb-chain, stops-is}
-
--- a term is at most the sum
-sum-part : (n : ℕ) (f : ℕ → ℕ) (i : ℕ) → 1 ≤ i → i ≤ n → f i ≤ sumOver n f
-unfolding sumOver
-sum-part zero f i p q = absurd (omega arith)
-sum-part (suc n) f i p q = by-eq i (suc n)
-    (λ e. rw e (omega arith))
-    (λ ne. omega (arith, sum-part n f i p (omega arith)))
 
 -- the master's moneyword and a process's cash
 total-part : (s : State) → Valid s → (me k : ℕ) → 1 ≤ me → me ≤ 64 → Lives (s .cap) k
@@ -41,7 +33,7 @@ total-part s h me k low high alive =
     let here = caps .live m (master-lives s caps k alive) in
     let own : ℕ → ℕ = λ i. elim (eqb (s .cap i .parent) 0) [ true ↦ s .money i | false ↦ 0 ] in
     let is = pick-yes (eqb (s .cap m .parent) 0) (s .money m) 0 (eq-eqb _ 0 (master-top s caps k alive)) in
-    omega (arith, sum-part 64 (λ o. s .cash o) me low high, sum-part 512 own m (here .some) (here .low), is, h .total)
+    omega (arith, sum-one 64 (λ o. s .cash o) me low high, sum-one 512 own m (here .some) (here .low), is, h .total)
 
 module _ (b l w : List ℕ) (g : Plain b l w) (me k : ℕ) (caller : Process b l me) (held : Held l k) where
   pub payable : Payable l w me k

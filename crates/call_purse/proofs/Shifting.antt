@@ -1,4 +1,4 @@
--- 01, "the climb takes the sum from each", in the view after a call's stores: each moneyword on the climb from k has
+-- 01, "The climb takes the sum from each", in the view after a call's stores: each moneyword on the climb from k has
 -- gone through f, and the caller has the cash v. The slots that k descends from are those of the climb by the links.
 use Prim.Native.Nat.{ℕ}
 use mathlib.Core.Path.{_≡_, refl, sym, ap, _∙_, fun-ext}

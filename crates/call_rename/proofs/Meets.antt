@@ -26,7 +26,7 @@ use Rattle.call_steps.specs.Run.{Held, Meets}
 use Rattle.call_steps.proofs.Meeting.{Takes, meets-taken}
 use Rattle.call_steps.proofs.Replying.{hands-back-is}
 use Rattle.call_steps.proofs.Sharing.{p1-taken-is}
-use Rattle.call_prune.specs.Links.{Living}
+use Rattle.call_prune.specs.Links.{LivingCap}
 use Rattle.call_prune.proofs.Measuring.{pruned}
 use Rattle.call_prune.proofs.Ending.{rows-sized, rows-cells}
 use Rattle.call_prune.proofs.Formed.{living-of}
@@ -55,7 +55,7 @@ module _ {b l w : List ℕ} (W : WellFormed b l w) (c : Call) (me k : ℕ) (H : 
     abbrev s : State
     s = view b l w
 
-    abbrev L : Living l k
+    abbrev L : LivingCap l k
     L = living-of W (H .live)
 
     rename-stop : renameStop b l w k (c .drawn .p1) ≡ first (renameObjRefuses s c me k)

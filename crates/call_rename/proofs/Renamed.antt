@@ -29,7 +29,7 @@ use Rattle.layout.proofs.Puts.{Put, put, puts, Within, length-puts, field-puts,
 use Rattle.layout.proofs.Shown.{cap-here, cap-none, cap-object, cap-shown, money-none, parent-is}
 use Rattle.layout.proofs.Frame.{state-is, house-same, object-same, bytes-same, lock-same, cash-same, marks-same}
 use Rattle.layout.proofs.Frame.{box-same, cap-same-at, money-same-at}
-use Rattle.call_prune.specs.Links.{prunedLinks, Living}
+use Rattle.call_prune.specs.Links.{prunedLinks, LivingCap}
 use Rattle.call_prune.proofs.Pruning.{Pruning}
 use Rattle.call_prune.proofs.Measuring.{pruned}
 use Rattle.call_prune.proofs.Ending.{Ended, below, pruned-ended}
@@ -80,7 +80,7 @@ module _ (w : List ℕ) (k : ℕ) (drawn : Password) (low : 1 ≤ k) (high : k �
 
 -- ---- the capabilities of the object
 
-module _ {b l w : List ℕ} (W : WellFormed b l w) {k : ℕ} (L : Living l k) (top : parentOf l k ≡ 0) (c : Call) (me : ℕ)
+module _ {b l w : List ℕ} (W : WellFormed b l w) {k : ℕ} (L : LivingCap l k) (top : parentOf l k ≡ 0) (c : Call) (me : ℕ)
   where
     abbrev s : State
     s = view b l w

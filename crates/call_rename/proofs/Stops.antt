@@ -20,19 +20,19 @@ use Rattle.call_steps.specs.Replies.{Gives}
 use Rattle.call_steps.specs.Tests.{CapSlot, taken}
 use Rattle.call_steps.specs.declared.request.Reply.{Reply}
 use Rattle.call_steps.proofs.Replying.{refused-code, gives-code, replies-stopped, replies-done}
-use Rattle.call_prune.specs.Links.{Living}
+use Rattle.call_prune.specs.Links.{LivingCap}
 use Rattle.call_prune.proofs.Clearing.{scratch-done, scratch-kept}
 use Rattle.call_rename.specs.Runs.{renameStop, renamed, renameRun, Renews, Renames}
 
 -- ---- cells
 
-pub slot-of : {l : List ℕ} {k : ℕ} → Living l k → CapSlot k
+pub slot-of : {l : List ℕ} {k : ℕ} → LivingCap l k → CapSlot k
 slot-of {l} {k} L = record {
   low = field-low 512 Layout.OWNER l k (L .live);
   high = field-high 512 Layout.OWNER l k (L .live);
 }
 
-pub cell : {l : List ℕ} {k : ℕ} → Living l k → (off : ℕ) → field 512 off l k ≡ getD l (off + k) 0
+pub cell : {l : List ℕ} {k : ℕ} → LivingCap l k → (off : ℕ) → field 512 off l k ≡ getD l (off + k) 0
 cell {l} {k} L off = let at = slot-of L in field-in 512 off l k (at .low) (at .high)
 
 -- ---- the run

@@ -21,7 +21,7 @@ use Rattle.call_steps.specs.Run.{Ran, settled}
 use Rattle.call_steps.specs.Replies.{Replies}
 use Rattle.call_steps.specs.Tests.{ObjectSlot, taken}
 use Rattle.call_steps.specs.declared.request.Reply.{Reply}
-use Rattle.call_prune.specs.Links.{prunedLinks, Living}
+use Rattle.call_prune.specs.Links.{prunedLinks, LivingCap}
 use Rattle.call_prune.specs.Scratch.{scratchLeft}
 
 -- ---- the new master in the old one's record
@@ -32,7 +32,7 @@ renamedWords w k drawn = set (set w (Layout.P1 + k) (drawn .p1)) (Layout.P2 + k)
 
 pub record RenewAsks (l w : List ℕ) (k : ℕ) : Type 0 where
   pub words : length w ≡ Layout.WORDS
-  pub living : Living l k
+  pub living : LivingCap l k
 
 -- all other capabilities have ended, k has the password drawn, the scratch is all zero
 pub record Renews (l w scratch : List ℕ) (k : ℕ) (drawn : Password) (l′ w′ scratch′ : List ℕ) : Type 0 where
@@ -63,7 +63,7 @@ renameRun b l w k drawn = settled (renameStop b l w k (drawn .p1)) b l w (rename
 -- what the code asks
 pub record RenameAsks (b l w : List ℕ) (k : ℕ) : Type 0 where
   pub sized : Sized b l w
-  pub living : Living l k
+  pub living : LivingCap l k
   -- the object that the capability is for lives
   pub object : ObjectSlot (ownerOf l k)
   pub live : masterOf l (ownerOf l k) ≢ 0

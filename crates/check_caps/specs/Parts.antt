@@ -16,8 +16,8 @@ abbrev pub Whole : List ℕ → ℕ → ℕ → ℕ → Type 0
 Whole l o start end = (start ≡ 0) × (end ≡ sizeOf l o)
 
 -- capability i lies in capability p
-abbrev pub Within : List ℕ → List ℕ → ℕ → ℕ → Type 0
-Within l w i p =
+abbrev pub InParent : List ℕ → List ℕ → ℕ → ℕ → Type 0
+InParent l w i p =
     (bitAnd (rightsOf l i) (rightsOf l p) ≡ rightsOf l i)
     × (startOf w p ≤ startOf w i)
     × (endOf w i ≤ endOf w p)

@@ -4,7 +4,7 @@ ghost use lib.ListN.{length};
 ghost use Rattle.layout.specs.Layout;
 ghost use Rattle.layout.specs.Decides.{Decides};
 ghost use Rattle.layout.specs.Sizes.{LinksWords};
-ghost use Rattle.check_caps.specs.Parts.{CapMeets, Whole, Within};
+ghost use Rattle.check_caps.specs.Parts.{CapMeets, Whole, InParent};
 use layout::END;
 use layout::OWNER;
 use layout::PARENT;
@@ -36,7 +36,7 @@ fn is_whole(links: &[u16], o: usize, start: u32, end: u32) -> bool
 // The rights and the window of capability i lie in those of capability p.
 fn is_within(links: &[u16], words: &[u32], i: usize, p: usize) -> bool
     requires { ⌜ LinksWords (now links) (now words) ⌝ }
-    ensures { λ r. ⌜ Decides (Within (now (links .entry)) (now (words .entry)) i p) r ⌝ }
+    ensures { λ r. ⌜ Decides (InParent (now (links .entry)) (now (words .entry)) i p) r ⌝ }
 {
     let rights = Rights(link(links, MAX_CAPS, RIGHTS, i));
     let both = rights.both(Rights(link(links, MAX_CAPS, RIGHTS, p)));

@@ -12,7 +12,7 @@ use Rattle.layout.specs.Rows.{masterOf, sizeOf, firstBlockOf, nextBlockOf}
 use Rattle.layout.specs.Shape.{times, BlocksOf, Blocks}
 use Rattle.layout.proofs.Field.{field-in}
 use Rattle.layout.specs.Decides.{Decides}
-use Rattle.check_chains.specs.Marking.{Marks, Part, Marking}
+use Rattle.check_chains.specs.Marking.{VisitMarks, Part, Marking}
 use Rattle.check_chains.specs.Parts.{chainWith, Any, Long, blocksOf, blocksOfAll}
 use Rattle.check_chains.proofs.Marking.{marking-nothing, marking-as}
 use Rattle.layout.proofs.Deciding.{as-well}
@@ -20,7 +20,7 @@ use Rattle.check_chains.proofs.Covers.{Inside, chain-inside, each-insid
 
 module _ (l : List ℕ) (o : ℕ) (low : 1 ≤ o) (high : o ≤ 64) {s : List ℕ} where
   -- a free object has none
-  pub blocks-dead : Marks 512 s → getD l (Layout.MASTER + o) 0 ≡ 0 → Marking (blocksOf l o) s s true
+  pub blocks-dead : VisitMarks 512 s → getD l (Layout.MASTER + o) 0 ≡ 0 → Marking (blocksOf l o) s s true
   unfolding times
   blocks-dead m z = marking-nothing true m
       (λ _. ([], record { live = λ ne. absurd (ne dead); dead = λ _. refl }))

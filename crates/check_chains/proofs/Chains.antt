@@ -13,7 +13,7 @@ use Rattle.layout.specs.Rows.{field}
 use Rattle.layout.proofs.Field.{field-in}
 use Rattle.rules.proofs.Slots.{at-here, at-else, sum-same}
 use Rattle.layout.specs.Decides.{Decides}
-use Rattle.check_chains.specs.Marking.{AtSlots, Marks, Blank, FreeMarked, Part, Marking}
+use Rattle.check_chains.specs.Marking.{AtSlots, VisitMarks, Blank, FreeMarked, Part, Marking}
 use Rattle.check_chains.specs.Parts.{chainWith, Any, Long, JustFree, each}
 use Rattle.check_chains.proofs.Marking.{Made, single, marking-nothing, marking-one, marking-refused}
 use Rattle.check_chains.proofs.Marking.{Going, going-on, going-broken}
@@ -63,7 +63,7 @@ module _ (n off : ℕ) (l : List ℕ) {P Q : List ℕ → Type 0} {B : Type 0} {
       going-broken now (chain-made n (field n off l) steps low) {v = u} (marking-refused j (λ h z. f (h .0) z (h .1)))
 
 -- the chain ends here
-pub chain-end : (n : ℕ) (next : ℕ → ℕ) (P : List ℕ → Type 0) (j : ℕ) {s : List ℕ} (r : Bool) → Marks n s → j ≡ 0
+pub chain-end : (n : ℕ) (next : ℕ → ℕ) (P : List ℕ → Type 0) (j : ℕ) {s : List ℕ} (r : Bool) → VisitMarks n s → j ≡ 0
     → (r ≡ true → P []) → (P [] → r ≡ true) → Marking (chainWith n next P j) s s r
 unfolding Chain times
 chain-end n next P j r m z some all = marking-nothing r m (λ e. ([], (z, some e))) ended
@@ -79,7 +79,7 @@ module _ {X : Type 0} (Fits : ℕ → X → Type 0) (holds : X → ℕ → ℕ) 
   abbrev pub at-object : ℕ → Part
   at-object o = record { Thing = X; Fits = Fits o; holds = holds }
 
-  pub each-end : X → (n : ℕ) {s : List ℕ} → Marks 512 s → n ≡ 0 → Marking (each Fits holds n) s s true
+  pub each-end : X → (n : ℕ) {s : List ℕ} → VisitMarks 512 s → n ≡ 0 → Marking (each Fits holds n) s s true
   unfolding sumOver
   each-end some zero m e =
       marking-nothing true m (λ _. ((λ o. some), λ o a b. absurd (omega arith))) (λ T h. (refl, λ k. refl))

@@ -11,7 +11,7 @@ use lib.ListN.{length, getD, set, length-set}
 use lib.Seq.{getD-set-same, getD-set-other}
 use Rattle.rules.specs.Slots.{one}
 use Rattle.layout.proofs.Counts.{one-same, one-other}
-use Rattle.check_chains.specs.Marking.{Marks, Blank, Part, Marking}
+use Rattle.check_chains.specs.Marking.{VisitMarks, Blank, Part, Marking}
 
 -- what fits as P is what fits as A together with what fits as B
 pub record Made (P A B : Part) : Type 0 where
@@ -45,7 +45,7 @@ module _ {P A B : Part} (made : Made P A B) {s v u : List ℕ} where
   }
 
 -- a part that holds no record: there or not, nothing is marked
-pub marking-nothing : {P : Part} {s : List ℕ} {n : ℕ} (r : Bool) → Marks n s → (r ≡ true → (x : P .Thing) × P .Fits x)
+pub marking-nothing : {P : Part} {s : List ℕ} {n : ℕ} (r : Bool) → VisitMarks n s → (r ≡ true → (x : P .Thing) × P .Fits x)
     → ((x : P .Thing) → P .Fits x → (r ≡ true) × ((k : ℕ) → P .holds x k ≡ 0)) → Marking P s s r
 marking-nothing r m some all = record {
   sound = λ e. let x = some e in
@@ -76,7 +76,7 @@ marking-refused j f = record {
   complete = λ x a once. absurd (f a (omega (arith, once j, one-same j)));
 }
 
-pub marking-one : {A : Type 0} {n j : ℕ} {s : List ℕ} → Marks n s → j ≤ n → getD s j 0 ≡ 0 → A
+pub marking-one : {A : Type 0} {n j : ℕ} {s : List ℕ} → VisitMarks n s → j ≤ n → getD s j 0 ≡ 0 → A
     → Marking (single A j) s (set s j 1) true
 marking-one {A} {n} {j} {s} m high z a = record {
   sound = λ _. (tt, a, (λ k. once k (ℕ-discrete k j)), (λ k. marked k (ℕ-discrete k j)));
@@ -93,10 +93,10 @@ marking-one {A} {n} {j} {s} m high z a = record {
 
 -- ---- marks after a part was found
 
-pub marks-after : {P : Part} {n : ℕ} {s v : List ℕ} → Marks n s → length v ≡ length s → Marking P s v true → Marks n v
+pub marks-after : {P : Part} {n : ℕ} {s v : List ℕ} → VisitMarks n s → length v ≡ length s → Marking P s v true → VisitMarks n v
 marks-after m e h = let t = h .sound refl in record { size = e ∙ m .size; mark = λ k. omega (arith, t .2 k, t .3 k) }
 
-pub marks-blank : {n : ℕ} {s : List ℕ} → Blank n s → Marks n s
+pub marks-blank : {n : ℕ} {s : List ℕ} → Blank n s → VisitMarks n s
 marks-blank b = record { size = b .size; mark = λ k. omega (arith, b .clear k) }
 
 -- 01, "the count of unvisited records"
@@ -143,10 +143,10 @@ marking-falls {s = s} {v = v} j e l h some =
     unvisited-lt s v j e (λ k. omega (arith, t .3 k)) l (omega (arith, t .2 j)) (omega (arith, t .3 j))
 
 -- record j is visited
-pub visit-marks : {n j : ℕ} {s : List ℕ} → Marks n s → j ≤ n → getD s j 0 ≡ 0 → Marks n (set s j 1)
+pub visit-marks : {n j : ℕ} {s : List ℕ} → VisitMarks n s → j ≤ n → getD s j 0 ≡ 0 → VisitMarks n (set s j 1)
 visit-marks {j = j} {s = s} m high z = marks-after m (length-set s j 1) (marking-one m high z (tt {0}))
 
-pub visit-falls : {n j : ℕ} {s : List ℕ} → Marks n s → j ≤ n → getD s j 0 ≡ 0 → unvisited (set s j 1) < unvisited s
+pub visit-falls : {n j : ℕ} {s : List ℕ} → VisitMarks n s → j ≤ n → getD s j 0 ≡ 0 → unvisited (set s j 1) < unvisited s
 visit-falls {n} {j} {s} m high z =
     marking-falls j (length-set s j 1) (omega (arith, m .size)) (marking-one m high z (tt {0}))
     (λ x _. omega (arith, one-same j))
@@ -154,10 +154,10 @@ visit-falls {n} {j} {s} m high z =
 -- ---- a loop that marks: whatever the rest P is found to be from here on, so is the whole Q from t on
 
 pub record Going (n : ℕ) (P : Part) (s : List ℕ) (Q : Part) (t : List ℕ) : Type 0 where
-  pub marks : Marks n s
+  pub marks : VisitMarks n s
   pub leads : (u : List ℕ) (r : Bool) → Marking P s u r → Marking Q t u r
 
-pub going-start : {n : ℕ} {P : Part} {s : List ℕ} → Marks n s → Going n P s P s
+pub going-start : {n : ℕ} {P : Part} {s : List ℕ} → VisitMarks n s → Going n P s P s
 going-start m = record { marks = m; leads = λ u r h. h }
 
 module _ {n : ℕ} {P Q A B : Part} {s t : List ℕ} (now : Going n P s Q t) (made : Made P A B) where

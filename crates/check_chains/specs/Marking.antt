@@ -15,7 +15,7 @@ AtSlots n P = (k : ℕ) → 1 ≤ k → k ≤ n → P k
 -- ---- marks
 
 -- a mark for each of the records 1 to n: 1 if it was visited, 0 if not
-pub record Marks (n : ℕ) (seen : List ℕ) : Type 0 where
+pub record VisitMarks (n : ℕ) (seen : List ℕ) : Type 0 where
   pub size : length seen ≡ n + 1
   pub mark : (k : ℕ) → getD seen k 0 ≤ 1
 
@@ -62,7 +62,7 @@ pub record Marking (P : Part) (seen after : List ℕ) (r : Bool) : Type 0 where
 -- a row of n slots lies in the slice, and there are marks for them
 pub record RowFits (n off : ℕ) (l seen : List ℕ) : Type 0 where
   pub room : off + n < length l
-  pub marks : Marks n seen
+  pub marks : VisitMarks n seen
 
 -- two rows do, and none of their records is visited yet
 pub record BlankRows (n off row : ℕ) (l seen : List ℕ) : Type 0 where

@@ -9,7 +9,7 @@ use Rattle.rules.specs.Slots.{sumOver}
 use Rattle.layout.specs.Layout as Layout
 use Rattle.layout.specs.Rows.{field}
 use Rattle.layout.specs.Shape.{Chain, times, BlocksOf}
-use Rattle.check_chains.specs.Marking.{AtSlots, Marks, Part}
+use Rattle.check_chains.specs.Marking.{AtSlots, VisitMarks, Part}
 
 -- ---- one chain
 
@@ -69,11 +69,11 @@ blocksOfAll l = each (BlocksOf l) (λ xs k. times k xs)
 -- the slice of links is whole, and there are marks for its 512 capabilities or blocks
 pub record Checkable (l seen : List ℕ) : Type 0 where
   pub links : length l ≡ Layout.LINKS
-  pub marks : Marks Limit.caps seen
+  pub marks : VisitMarks Limit.caps seen
 
 -- and o is the slot of an object
 pub record CheckableAt (o : ℕ) (l seen : List ℕ) : Type 0 where
   pub low : 1 ≤ o
   pub high : o ≤ Limit.objects
   pub links : length l ≡ Layout.LINKS
-  pub marks : Marks Limit.caps seen
+  pub marks : VisitMarks Limit.caps seen

@@ -16,8 +16,8 @@ pub record SameName (b l : List ℕ) (o q : ℕ) : Type 0 where
 
 -- the place in the table of a name. 49471 / 2^16 and 73 / 128 are close to the powers -1 and -2 of the plastic ratio, by
 -- which the places of small numbers, in one volume or in several, lie apart
-unfoldable pub place : ℕ → ℕ → ℕ
-place volume serial = (serial * 49471 / 512 + volume * 73) % 128
+unfoldable pub namePlace : ℕ → ℕ → ℕ
+namePlace volume serial = (serial * 49471 / 512 + volume * 73) % 128
 
 -- what the table is of
 abbrev pub nameKeys : List ℕ → List ℕ → Keys
@@ -25,5 +25,5 @@ nameKeys b l = record {
   slots = Limit.objects;
   places = 128;
   Used = λ o. masterOf l o ≢ 0;
-  place = λ o. place (volumeOf b o) (serialOf l o);
+  place = λ o. namePlace (volumeOf b o) (serialOf l o);
 }

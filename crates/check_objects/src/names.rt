@@ -6,7 +6,7 @@ ghost use Rattle.rules.specs.Limit;
 ghost use Rattle.layout.specs.Decides.{Decides};
 ghost use Rattle.layout.specs.Sizes.{BytesLinks};
 ghost use Rattle.check_rows.specs.Buckets.{NoneFrom, Chained, Buckets, Entered};
-ghost use Rattle.check_objects.specs.Names.{SameName, place, nameKeys};
+ghost use Rattle.check_objects.specs.Names.{SameName, namePlace, nameKeys};
 use layout::MASTER;
 use layout::SERIAL;
 use layout::VOLUME;
@@ -16,7 +16,7 @@ use values::limit::MAX_OBJECTS;
 
 // The place in the table of a name.
 fn place_of(volume: u8, serial: u16) -> usize
-    ensures { λ r. ⌜ (r ≡ place volume serial) × (r < 128) ⌝ }
+    ensures { λ r. ⌜ (r ≡ namePlace volume serial) × (r < 128) ⌝ }
 {
     (serial as usize * 49471 / 512 + volume as usize * 73) % 128
 }

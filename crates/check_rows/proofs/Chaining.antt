@@ -12,7 +12,7 @@ use Rattle.layout.specs.Decides.{Decides}
 use Rattle.layout.proofs.Deciding.{yes-it, no-it, as-well}
 use Rattle.layout.proofs.Zeros.{zeros}
 use Rattle.check_rows.specs.Distinct.{NoneAbove}
-use Rattle.check_rows.specs.Buckets.{Up, Links, after, Stands, NoneFrom, Keys, Buckets, Chained}
+use Rattle.check_rows.specs.Buckets.{Up, Links, linksAfter, InBucket, NoneFrom, Keys, Buckets, Chained}
 
 -- ---- a chain
 
@@ -25,30 +25,30 @@ module _ {n : ℕ} {next : List ℕ} (l : Links n next) where
       go (yes z) = absurd (ne (rw z (l .ends)))
       go (no some) = let a = up some in let b = l .rises j ne in (omega (arith, a .0, b .0), b .1)
 
-  up-after : {i : ℕ} (d j : ℕ) → Up n i j → Up n i (after next d j)
-  unfolding after
+  up-after : {i : ℕ} (d j : ℕ) → Up n i j → Up n i (linksAfter next d j)
+  unfolding linksAfter
   up-after zero j up = up
   up-after (suc d) j up = up-after d (getD next j 0) (up-on j up)
 
   -- a chain has the end of all chains after it
-  end-after : (d : ℕ) → after next d 0 ≡ 0
-  unfolding after
+  end-after : (d : ℕ) → linksAfter next d 0 ≡ 0
+  unfolding linksAfter
   end-after zero = refl
-  end-after (suc d) = rw (l .ends, after) (end-after d)
+  end-after (suc d) = rw (l .ends, linksAfter) (end-after d)
 
   -- a link from a slot that no chain above it has yet changes none of them
-  kept-after : {i : ℕ} (x d j : ℕ) → 1 ≤ i → Up n i j → after (set next i x) d j ≡ after next d j
-  unfolding after
+  kept-after : {i : ℕ} (x d j : ℕ) → 1 ≤ i → Up n i j → linksAfter (set next i x) d j ≡ linksAfter next d j
+  unfolding linksAfter
   kept-after x zero j low up = refl
   kept-after {i} x (suc d) j low up =
-      rw (getD-set-other next i j x 0 off, after) (kept-after x d (getD next j 0) low (up-on j up))
+      rw (getD-set-other next i j x 0 off, linksAfter) (kept-after x d (getD next j 0) low (up-on j up))
     where
       off : j ≢ i
       off e = omega (arith, up (λ z. omega arith) .0)
 
 -- by one link more
-stands-on : {next : List ℕ} (j k : ℕ) → Stands next (getD next j 0) k → Stands next j k
-unfolding after
+stands-on : {next : List ℕ} (j k : ℕ) → InBucket next (getD next j 0) k → InBucket next j k
+unfolding linksAfter
 stands-on j k s = record { links = suc (s .links); is = s .is }
 
 -- ---- the table
@@ -80,7 +80,7 @@ module _ {K : Keys} {heads next : List ℕ} {i : ℕ} (t : Buckets K heads next 
     holds = λ j above used. go j above used (ℕ-discrete j i);
   }
     where
-      go : (j : ℕ) → i - 1 < j → K .Used j → Dec (j ≡ i) → Stands next (getD heads (K .place j) 0) j
+      go : (j : ℕ) → i - 1 < j → K .Used j → Dec (j ≡ i) → InBucket next (getD heads (K .place j) 0) j
       go j above used (yes e) = absurd (none (rw (← e) used))
       go j above used (no ne) = t .holds j (omega arith) used
 
@@ -123,26 +123,26 @@ module _ {K : Keys} {heads next : List ℕ} {i : ℕ} (t : Buckets K heads next 
         go (no ne) = rw (head-there p ne) (lower (t .starts p))
 
     -- a chain as it was
-    stands-kept : (j k : ℕ) → Up (K .slots) i j → Stands next j k → Stands next′ j k
+    stands-kept : (j k : ℕ) → Up (K .slots) i j → InBucket next j k → InBucket next′ j k
     unfolding next′
     stands-kept j k up s = record {
       links = s .links;
       is = kept-after (t .links) (getD heads at 0) (s .links) j low up ∙ s .is;
     }
 
-    holds-above : (j : ℕ) → i < j → K .Used j → Stands next′ (getD heads′ (K .place j) 0) j
+    holds-above : (j : ℕ) → i < j → K .Used j → InBucket next′ (getD heads′ (K .place j) 0) j
     holds-above j above used = go (ℕ-discrete (K .place j) at)
       where
-        was : Stands next′ (getD heads (K .place j) 0) j
+        was : InBucket next′ (getD heads (K .place j) 0) j
         was = stands-kept _ _ (t .starts (K .place j)) (t .holds j above used)
 
-        go : Dec (K .place j ≡ at) → Stands next′ (getD heads′ (K .place j) 0) j
+        go : Dec (K .place j ≡ at) → InBucket next′ (getD heads′ (K .place j) 0) j
         go (yes e) = rw (e, head-here) (stands-on i j (rw next-here (rw e at was)))
         go (no ne) = rw (head-there (K .place j) ne) was
 
     -- slot i stands at the head of its chain
-    holds-here : Stands next′ (getD heads′ (K .place i) 0) i
-    unfolding after
+    holds-here : InBucket next′ (getD heads′ (K .place i) 0) i
+    unfolding linksAfter
     holds-here = rw (← at-is, head-here) (record { links = 0; is = refl })
 
     pub slot-entered : Buckets K (set heads at i) (set next i (getD heads at 0)) (i - 1)
@@ -154,7 +154,7 @@ module _ {K : Keys} {heads next : List ℕ} {i : ℕ} (t : Buckets K heads next 
       holds = λ j above used. go j above used (ℕ-discrete j i);
     }
       where
-        go : (j : ℕ) → i - 1 < j → K .Used j → Dec (j ≡ i) → Stands next′ (getD heads′ (K .place j) 0) j
+        go : (j : ℕ) → i - 1 < j → K .Used j → Dec (j ≡ i) → InBucket next′ (getD heads′ (K .place j) 0) j
         go j above used (yes e) = rw e holds-here
         go j above used (no ne) = holds-above j (omega arith) used
 
@@ -170,11 +170,11 @@ module _ {K : Keys} {heads next : List ℕ} {i : ℕ} (t : Buckets K heads next 
       (λ none j above s. none j (omega arith) (there j above s) s)
       (λ none k low s same-k. none k (beyond k low s) same-k)
     where
-      there : (j : ℕ) → i < j → same i j → Stands next (getD heads at 0) j
+      there : (j : ℕ) → i < j → same i j → InBucket next (getD heads at 0) j
       there j above s = let a = alike j s in
           rw (at-is, ← a .1) (t .holds j above (a .0))
 
-      beyond : (k : ℕ) → 1 ≤ k → Stands next (getD heads at 0) k → i < k
+      beyond : (k : ℕ) → 1 ≤ k → InBucket next (getD heads at 0) k → i < k
       beyond k low s =
           let up : Up (K .slots) i k = rw (s .is) at (up-after (t .links) (s .links) (getD heads at 0) (t .starts at)) in
           up (λ z. omega arith) .0
@@ -200,7 +200,7 @@ module _ {n : ℕ} {same : ℕ → ℕ → Type 0} {next : List ℕ} {i head j :
   pub along-end : j ≤ 0 → Decides (NoneFrom same next i head) true
   along-end z = yes-it (now .on (λ k low s _. none k low s))
     where
-      none : (k : ℕ) → 1 ≤ k → Stands next j k → ⊥
+      none : (k : ℕ) → 1 ≤ k → InBucket next j k → ⊥
       none k low s =
           let e : j ≡ 0 = omega arith in
           omega (arith, sym (end-after (now .links) (s .links)) ∙ (rw e at (s .is)))
@@ -210,11 +210,11 @@ module _ {n : ℕ} {same : ℕ → ℕ → Type 0} {next : List ℕ} {i head j :
     along-in = now .up (λ z. omega arith) .1
 
     pub along-found : same i j → Decides (NoneFrom same next i head) false
-    unfolding after
+    unfolding linksAfter
     along-found s = no-it (λ none. now .back none j some (record { links = 0; is = refl }) s)
 
     pub along-on : (same i j → ⊥) → Along n same next i head (getD next j 0)
-    unfolding after
+    unfolding linksAfter
     along-on differs = record {
       links = now .links;
       up = up-on (now .links) j (now .up);
@@ -222,7 +222,7 @@ module _ {n : ℕ} {same : ℕ → ℕ → Type 0} {next : List ℕ} {i head j :
       back = λ none k low s. now .back none k low (stands-on j k s);
     }
       where
-        go : NoneFrom same next i (getD next j 0) → (k : ℕ) → 1 ≤ k → (d : ℕ) → after next d j ≡ k → same i k → ⊥
+        go : NoneFrom same next i (getD next j 0) → (k : ℕ) → 1 ≤ k → (d : ℕ) → linksAfter next d j ≡ k → same i k → ⊥
         go none k low zero e = rw (← e) differs
         go none k low (suc d) e = none k low (record { links = d; is = e })
 

@@ -21,18 +21,18 @@ pub record Links (n : ℕ) (next : List ℕ) : Type 0 where
   pub rises : (j : ℕ) → Up n j (getD next j 0)
 
 -- the slot that is d links after slot j
-unfoldable pub after : List ℕ → ℕ → ℕ → ℕ
-after next zero j = j
-after next (suc d) j = after next d (getD next j 0)
+unfoldable pub linksAfter : List ℕ → ℕ → ℕ → ℕ
+linksAfter next zero j = j
+linksAfter next (suc d) j = linksAfter next d (getD next j 0)
 
 -- slot k stands in the chain from slot j on
-pub record Stands (next : List ℕ) (j k : ℕ) : Type 0 where
+pub record InBucket (next : List ℕ) (j k : ℕ) : Type 0 where
   pub links : ℕ
-  pub is : after next links j ≡ k
+  pub is : linksAfter next links j ≡ k
 
 -- no slot in the chain from slot j on is the same as slot i
 abbrev pub NoneFrom : (ℕ → ℕ → Type 0) → List ℕ → ℕ → ℕ → Type 0
-NoneFrom same next i j = (k : ℕ) → 1 ≤ k → Stands next j k → same i k → ⊥
+NoneFrom same next i j = (k : ℕ) → 1 ≤ k → InBucket next j k → same i k → ⊥
 
 -- what is entered: the slots in use, each at its place
 pub record Keys : Type 1 where
@@ -46,7 +46,7 @@ pub record Buckets (K : Keys) (heads next : List ℕ) (i : ℕ) : Type 0 where
   pub size : length heads ≡ K .places
   pub links : Links (K .slots) next
   pub starts : (p : ℕ) → Up (K .slots) i (getD heads p 0)
-  pub holds : (j : ℕ) → i < j → K .Used j → Stands next (getD heads (K .place j) 0) j
+  pub holds : (j : ℕ) → i < j → K .Used j → InBucket next (getD heads (K .place j) 0) j
 
 -- slot i was compared with those above it, and the table has it too
 pub record Entered (K : Keys) (same : ℕ → ℕ → Type 0) (heads next : List ℕ) (i : ℕ) (r : Bool) : Type 0 where

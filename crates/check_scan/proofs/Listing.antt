@@ -8,7 +8,7 @@ use lib.Seq.{getD-set-same, getD-set-other}
 use native.Mathlib.Decide.{ℕ-discrete}
 use native.Mathlib.Omega.{arith}
 use Rattle.layout.specs.Rows.{ownerOf}
-use Rattle.check_scan.specs.Slots.{Entry, Slots, NextPlace}
+use Rattle.check_scan.specs.Slots.{OneOfEntries, Slots, NextPlace}
 
 pub no-entry : (l list : List ℕ) → length list ≡ 513 → Slots l list 0 0 512 512
 no-entry l list e = record {
@@ -29,7 +29,7 @@ module _ (l list : List ℕ) (n j : ℕ) (s : Slots l list 0 n j 512) (up : 1 �
   at-end : getD (set list n j) n 0 ≡ j
   at-end = getD-set-same list n j 0 (omega (arith, s .size, s .room))
 
-  old-entry : (r i : ℕ) → n ≤ r → j < i → i ≤ 512 → ownerOf l i ≢ 0 → Entry (set list n j) 0 r i
+  old-entry : (r i : ℕ) → n ≤ r → j < i → i ≤ 512 → ownerOf l i ≢ 0 → OneOfEntries (set list n j) 0 r i
   old-entry r i more above upto live =
       let e = s .cover i above upto live in
       record {
@@ -50,10 +50,10 @@ module _ (l list : List ℕ) (n j : ℕ) (s : Slots l list 0 n j 512) (up : 1 �
     high = λ m a b. omega (arith, same-below m b, s .high m a b);
   }
     where
-      cover : (i : ℕ) → j - 1 < i → i ≤ 512 → ownerOf l i ≢ 0 → Entry (set list n j) 0 n i
+      cover : (i : ℕ) → j - 1 < i → i ≤ 512 → ownerOf l i ≢ 0 → OneOfEntries (set list n j) 0 n i
       cover i above upto live = go (ℕ-discrete i j)
         where
-          go : Dec (i ≡ j) → Entry (set list n j) 0 n i
+          go : Dec (i ≡ j) → OneOfEntries (set list n j) 0 n i
           go (yes e) = absurd (live (rw e z))
           go (no ne) = old-entry n i (omega arith) (omega arith) upto live
 
@@ -67,10 +67,10 @@ module _ (l list : List ℕ) (n j : ℕ) (s : Slots l list 0 n j 512) (up : 1 �
     high = high;
   }
     where
-      cover : (i : ℕ) → j - 1 < i → i ≤ 512 → ownerOf l i ≢ 0 → Entry (set list n j) 0 (n + 1) i
+      cover : (i : ℕ) → j - 1 < i → i ≤ 512 → ownerOf l i ≢ 0 → OneOfEntries (set list n j) 0 (n + 1) i
       cover i above upto live = go (ℕ-discrete i j)
         where
-          go : Dec (i ≡ j) → Entry (set list n j) 0 (n + 1) i
+          go : Dec (i ≡ j) → OneOfEntries (set list n j) 0 (n + 1) i
           go (yes e) = record { place = n; from = omega arith; before = omega arith; is = at-end ∙ sym e }
           go (no ne) = old-entry (n + 1) i (omega arith) (omega arith) upto live
 
@@ -122,7 +122,7 @@ module _ (l list : List ℕ) (k n p : ℕ) (s : Slots l list k n 0 p) where
     pub free-above : (i : ℕ) → getD list k 0 < i → i ≤ p → ownerOf l i ≡ 0
     free-above i above upto = go (ℕ-discrete (ownerOf l i) 0)
       where
-        late : (e : Entry list k n i) → Dec (e .place ≡ k) → ⊥
+        late : (e : OneOfEntries list k n i) → Dec (e .place ≡ k) → ⊥
         late e (yes at) = omega (arith, e .is, rw at at (e .is))
         late e (no ne) = omega (arith, e .is, s .falls k (e .place) (omega arith) (omega (arith, e .from)) (e .before))
 
@@ -140,11 +140,11 @@ module _ (l list : List ℕ) (k n p : ℕ) (s : Slots l list k n 0 p) where
       high = λ m a b. omega (arith, s .falls k m (omega arith) (omega arith) b);
     }
       where
-        cover : (i : ℕ) → 0 < i → i ≤ getD list k 0 - 1 → ownerOf l i ≢ 0 → Entry list (k + 1) n i
+        cover : (i : ℕ) → 0 < i → i ≤ getD list k 0 - 1 → ownerOf l i ≢ 0 → OneOfEntries list (k + 1) n i
         cover i above upto lives = let e = s .cover i above (omega (arith, s .high k (omega arith) more)) lives in
             go e (ℕ-discrete (e .place) k)
           where
-            go : (e : Entry list k n i) → Dec (e .place ≡ k) → Entry list (k + 1) n i
+            go : (e : OneOfEntries list k n i) → Dec (e .place ≡ k) → OneOfEntries list (k + 1) n i
             go e (yes at) = absurd (omega (arith, rw at at (e .is)))
             go e (no ne) =
                 record { place = e .place; from = omega (arith, e .from); before = e .before; is = e .is }

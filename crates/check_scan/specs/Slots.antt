@@ -8,7 +8,7 @@ use Rattle.rules.specs.Limit as Limit
 use Rattle.layout.specs.Rows.{ownerOf}
 
 -- slot i is one of the entries k to n - 1
-pub record Entry (list : List ℕ) (k n i : ℕ) : Type 0 where
+pub record OneOfEntries (list : List ℕ) (k n i : ℕ) : Type 0 where
   pub place : ℕ
   pub from : k ≤ place
   pub before : place < n
@@ -18,7 +18,7 @@ pub record Entry (list : List ℕ) (k n i : ℕ) : Type 0 where
 pub record Slots (l list : List ℕ) (k n j p : ℕ) : Type 0 where
   pub size : length list ≡ Limit.caps + 1
   pub room : n + j ≤ Limit.caps
-  pub cover : (i : ℕ) → j < i → i ≤ p → ownerOf l i ≢ 0 → Entry list k n i
+  pub cover : (i : ℕ) → j < i → i ≤ p → ownerOf l i ≢ 0 → OneOfEntries list k n i
   pub falls : (m q : ℕ) → k ≤ m → m < q → q < n → getD list q 0 < getD list m 0
   pub low : (m : ℕ) → k ≤ m → m < n → j < getD list m 0
   pub high : (m : ℕ) → k ≤ m → m < n → getD list m 0 ≤ p

@@ -13,7 +13,7 @@ use Rattle.layout.specs.Layout as Layout
 use Rattle.layout.specs.Rows.{masterOf, firstChildOf, nextCapOf}
 use Rattle.layout.specs.Shape.{Forest, nil, node, count, Sound, SoundIn}
 use Rattle.layout.proofs.Field.{field-in}
-use Rattle.check_chains.specs.Marking.{Marks, Part, Marking}
+use Rattle.check_chains.specs.Marking.{VisitMarks, Part, Marking}
 use Rattle.check_chains.proofs.Marking.{Made, single, marking-then, marking-broken, marking-nothing}
 use Rattle.check_chains.proofs.Marking.{marking-one, marking-refused, marking-falls, unvisited}
 use Rattle.check_chains.proofs.Marking.{Going, going-start, going-on, going-broken}
@@ -48,7 +48,7 @@ module _ (l : List ℕ) (o parent prev : ℕ) where
       parts (node j K R) h =
           rw (h .0) (K, R, (h .1, h .2), h .3, λ k. refl)
 
-  pub children-end : (head : ℕ) {s : List ℕ} → Marks 512 s → head ≡ 0
+  pub children-end : (head : ℕ) {s : List ℕ} → VisitMarks 512 s → head ≡ 0
       → Marking (childrenFrom l o parent prev head) s s true
   unfolding Sound count
   children-end head m z = marking-nothing true m (λ _. (nil, z)) ended
@@ -63,7 +63,7 @@ module _ (l : List ℕ) (o parent prev : ℕ) where
   record-refused j {s} {u} f = marking-broken (record-made j) {v = u} (marking-refused j f)
 
   -- j agrees and is visited, and then its children are sound or not
-  pub record-step : (j : ℕ) {s u : List ℕ} {r : Bool} → AgreeIn l o parent prev j → Marks 512 s → getD s j 0 ≡ 0
+  pub record-step : (j : ℕ) {s u : List ℕ} {r : Bool} → AgreeIn l o parent prev j → VisitMarks 512 s → getD s j 0 ≡ 0
       → Marking (childrenFrom l o j 0 (getD l (Layout.«FIRST_CHILD» + j) 0)) (set s j 1) u r
       → Marking (recordAt l o parent prev j) s u r
   record-step j a m z h = marking-then (record-made j) (marking-one m (a .high) z a)
@@ -76,7 +76,7 @@ pub record Along (l : List ℕ) (o parent prev head : ℕ) (start seen : List �
   pub going : Going 512 (childrenFrom l o parent back j) seen (childrenFrom l o parent prev head) start
   pub fewer : unvisited seen ≤ unvisited start
 
-pub along-start : (l : List ℕ) (o parent prev head : ℕ) (start : List ℕ) → Marks 512 start
+pub along-start : (l : List ℕ) (o parent prev head : ℕ) (start : List ℕ) → VisitMarks 512 start
     → Along l o parent prev head start start head prev
 along-start l o parent prev head start m = record { going = going-start m; fewer = omega arith }
 
@@ -111,7 +111,7 @@ module _ {l : List ℕ} {o parent prev head : ℕ} {start seen : List ℕ} {j ba
 abbrev pub ending : ℕ → Part
 ending x = record { Thing = Unit {0}; Fits = λ _. x ≡ 0; holds = λ _ k. 0 }
 
-pub ending-marking : (x : ℕ) {s : List ℕ} → Marks 512 s → Marking (ending x) s s (eqb x 0)
+pub ending-marking : (x : ℕ) {s : List ℕ} → VisitMarks 512 s → Marking (ending x) s s (eqb x 0)
 ending-marking x m =
     marking-nothing (eqb x 0) m (λ e. (tt, eqb-true x 0 e)) (λ _ z. (eq-eqb x 0 z, λ k. refl))
 
@@ -142,7 +142,7 @@ module _ (l : List ℕ) (o : ℕ) where
     master-is = cell ∙ sym (field-in 64 Layout.MASTER l o low high)
 
     -- a free object has none
-    pub tree-dead : {s : List ℕ} → Marks 512 s → m ≡ 0 → Marking (treeAt l o) s s true
+    pub tree-dead : {s : List ℕ} → VisitMarks 512 s → m ≡ 0 → Marking (treeAt l o) s s true
     unfolding count
     tree-dead marks z = marking-nothing true marks
         (λ _. (nil, record { live = λ ne. absurd (ne dead); dead = λ _. refl }))
@@ -158,7 +158,7 @@ module _ (l : List ℕ) (o : ℕ) where
     tree-broken ne g = marking-broken (tree-made (alive ne)) (rw master-is at g)
 
     -- its master is sound, and then it has a sibling or not
-    pub tree-step : {s v : List ℕ} → m ≢ 0 → Marking (recordAt l o 0 0 m) s v true → Marks 512 v
+    pub tree-step : {s v : List ℕ} → m ≢ 0 → Marking (recordAt l o 0 0 m) s v true → VisitMarks 512 v
         → Marking (treeAt l o) s v (eqb (getD l (Layout.«NEXT_CAP» + m) 0) 0)
     tree-step ne g marks =
         let a = g .sound refl .1 .0 in

@@ -14,6 +14,7 @@ use borrow.Author.Tests.{eq-eqb, ne-eqb, le-leb, lt-leb}
 use Rattle.rules.specs.Slots.{one, sumOver, countOver}
 use Rattle.rules.specs.Store.{objectsLive, freeBlocks, blocks}
 use Rattle.rules.specs.Demand.{FreeObject}
+use Rattle.rules.proofs.Slots.{sum-add}
 use Rattle.layout.specs.Layout as Layout
 use Rattle.layout.specs.Rows.{masterOf, nextObjectOf, nextBlockOf}
 use Rattle.layout.specs.View.{isSet, view}
@@ -21,7 +22,7 @@ use Rattle.layout.specs.Shape.{Chain, times, Objects, Blocks}
 use Rattle.layout.proofs.Counts.{one-same}
 use Rattle.layout.proofs.Shown.{set-yes, set-no, live-is}
 use Rattle.layout.proofs.Linking.{chain-head}
-use Rattle.layout.proofs.Room.{sum-add, chain-length, all}
+use Rattle.layout.proofs.Room.{chain-length, all}
 
 -- ---- sums and chains
 

@@ -12,13 +12,13 @@ use borrow.Author.Tests.{eqb-true, eq-eqb, leb-true, le-leb}
 use Rattle.rules.specs.Slots.{at, one, sumOver, countOver}
 use Rattle.rules.specs.Store.{capLives, capsLive}
 use Rattle.rules.proofs.Tests.{by-eq, bool-same, does-live}
-use Rattle.rules.proofs.Slots.{at-here, at-else}
+use Rattle.rules.proofs.Slots.{at-here, at-else, sum-but}
 use Rattle.layout.specs.Layout as Layout
 use Rattle.layout.specs.Rows.{ownerOf, nextCapOf}
 use Rattle.layout.specs.View.{view}
 use Rattle.layout.specs.Shape.{Chain, times, count, Caps}
 use Rattle.layout.proofs.Counts.{one-same}
-use Rattle.layout.proofs.Linking.{sum-put, sum-one, chain-frame, chain-head}
+use Rattle.layout.proofs.Linking.{sum-one, chain-frame, chain-head}
 use Rattle.layout.proofs.Shaped.{cap-held}
 use Rattle.layout.proofs.Shown.{cap-object, cap-shown}
 
@@ -50,7 +50,7 @@ count-below n t i p q e =
     let g : ℕ → ℕ = λ j. one (at t i true j) in
     let was : one (t i) ≡ 0 = ap one e in
     let is : one (at t i true i) ≡ 1 = ap one (at-here t i true) in
-    let sums : sumOver n g + f i ≡ sumOver n f + g i = sum-put n f g i p q (λ j ne. ap one (at-else t i true j ne)) in
+    let sums : sumOver n g + f i ≡ sumOver n f + g i = sum-but n f g i p q (λ j ne. ap one (at-else t i true j ne)) in
     let most : sumOver n g ≤ n = count-most n (at t i true) in
     omega (arith, was, is, sums, most)
 

@@ -1,42 +1,29 @@
 -- Chains and trees where links change: what a chain or a tree says of the records that stand in it, that it holds as it
 -- did where their links are as they were, and sums in which one term changes.
-use Prim.Native.Nat.{ℕ, zero, suc, _+_, _≤_}
-use mathlib.Core.Path.{_≡_, refl, sym, ap, _∙_}
+use Prim.Native.Nat.{ℕ, _+_, _≤_}
+use mathlib.Core.Path.{_≡_, refl, ap, _∙_}
 use mathlib.Core.Logic.{_≢_}
 use mathlib.Core.List.{List, [], _∷_, _++_}
 use native.Mathlib.Omega.{arith}
 use native.Mathlib.Decide.{ℕ-discrete}
 use Rattle.rules.specs.Slots.{sumOver, at}
-use Rattle.rules.proofs.Slots.{at-here, at-else, sum-same}
-use Rattle.layout.specs.Shape.{Chain, times, Forest, nil, node, count, Agree, Sound}
+use Rattle.rules.proofs.Slots.{at-here, at-else, sum-but}
+use Rattle.layout.specs.Shape.{Chain, times, Forest, nil, node, count, Sound}
 use Rattle.layout.proofs.Counts.{one-same, one-other}
 
 -- ---- sums
 
--- one term changed
-pub sum-put : (n : ℕ) (f g : ℕ → ℕ) (o : ℕ) → 1 ≤ o → o ≤ n → ((i : ℕ) → i ≢ o → g i ≡ f i)
-    → sumOver n g + f o ≡ sumOver n f + g o
-unfolding sumOver
-sum-put zero f g o a b h = absurd (omega arith)
-sum-put (suc n) f g o a b h = go (ℕ-discrete o (suc n)) (sum-put n f g o a)
-  where
-    go : Dec (o ≡ suc n)
-        → (o ≤ n → ((i : ℕ) → i ≢ o → g i ≡ f i) → sumOver n g + f o ≡ sumOver n f + g o)
-        → sumOver (suc n) g + f o ≡ sumOver (suc n) f + g o
-    go (yes e) r = omega (arith, sum-same n g f (λ i p q. h i (λ x. omega (arith, e, x, q))), ap f e, ap g e)
-    go (no ne) r = omega (arith, r (omega arith) h, h (suc n) (λ x. ne (sym x)))
-
 -- two terms are no more than the sum
 pub sum-two : (n : ℕ) (f : ℕ → ℕ) (i o : ℕ) → 1 ≤ i → i ≤ n → 1 ≤ o → o ≤ n → i ≢ o → f i + f o ≤ sumOver n f
 sum-two n f i o a b c d ne =
-    let x = sum-put n f (at f o 0) o c d (λ k h. at-else f o 0 k h) in
-    let y = sum-put n (at f o 0) (at (at f o 0) i 0) i a b (λ k h. at-else (at f o 0) i 0 k h) in
+    let x = sum-but n f (at f o 0) o c d (λ k h. at-else f o 0 k h) in
+    let y = sum-but n (at f o 0) (at (at f o 0) i 0) i a b (λ k h. at-else (at f o 0) i 0 k h) in
     omega (arith, x, y, at-here f o 0, at-else f o 0 i ne, at-here (at f o 0) i 0)
 
 -- and one is not
 pub sum-one : (n : ℕ) (f : ℕ → ℕ) (o : ℕ) → 1 ≤ o → o ≤ n → f o ≤ sumOver n f
 sum-one n f o a b =
-    let x = sum-put n f (at f o 0) o a b (λ k h. at-else f o 0 k h) in
+    let x = sum-but n f (at f o 0) o a b (λ k h. at-else f o 0 k h) in
     omega (arith, x, at-here f o 0)
 
 -- ---- chains

@@ -1,6 +1,6 @@
 -- The room of 512 blocks follows from the shape: each block is in one chain, so the chains have at most 512 in all, and
 -- a check of a store need not add up the sizes.
-use Prim.Native.Nat.{ℕ, zero, suc, _+_, _≤_}
+use Prim.Native.Nat.{ℕ, zero, suc, _≤_}
 use mathlib.Core.Path.{_≡_, refl, sym, ap, _∙_}
 use mathlib.Core.List.{List, [], _∷_}
 use native.Mathlib.Omega.{arith}
@@ -12,7 +12,7 @@ use Rattle.rules.specs.Store.{noObject, blocks}
 use Rattle.layout.specs.Rows.{masterOf, firstBlockOf, nextBlockOf}
 use Rattle.layout.specs.View.{view}
 use Rattle.layout.specs.Shape.{Chain, times, Blocks}
-use Rattle.rules.proofs.Slots.{sum-same, sum-zero}
+use Rattle.rules.proofs.Slots.{sum-same, sum-zero, sum-add, sum-swap}
 use Rattle.layout.proofs.Counts.{one-same, one-other}
 use Rattle.layout.proofs.Shown.{object-here, object-none}
 
@@ -20,19 +20,6 @@ use Rattle.layout.proofs.Shown.{object-here, object-none}
 
 pub sum-zeros : (n : ℕ) → sumOver n (λ i. 0) ≡ 0
 sum-zeros n = sum-zero n (λ i. 0) (λ i _ _. refl)
-
-pub sum-add : (n : ℕ) (f g : ℕ → ℕ) → sumOver n (λ i. f i + g i) ≡ sumOver n f + sumOver n g
-unfolding sumOver
-sum-add zero f g = refl
-sum-add (suc n) f g = omega (arith, sum-add n f g)
-
--- the order of two sums does not matter
-pub sum-swap : (n m : ℕ) (f : ℕ → ℕ → ℕ)
-    → sumOver n (λ i. sumOver m (λ j. f i j)) ≡ sumOver m (λ j. sumOver n (λ i. f i j))
-unfolding sumOver
-sum-swap zero m f = sym (sum-zeros m)
-sum-swap (suc n) m f =
-    omega (arith, sum-swap n m f, sum-add m (λ j. f (suc n) j) (λ j. sumOver n (λ i. f i j)))
 
 pub sum-ones : (n : ℕ) (f : ℕ → ℕ) → ((i : ℕ) → 1 ≤ i → i ≤ n → f i ≤ 1) → sumOver n f ≤ n
 unfolding sumOver

@@ -1,5 +1,5 @@
 -- Slots of one state taken to slots of another, one to one: what is found, counted and summed over them is the same.
-use Prim.Native.Nat.{ℕ, zero, suc, _+_, _≤_}
+use Prim.Native.Nat.{ℕ, _≤_}
 use mathlib.Core.Path.{_≡_, refl, sym, ap, _∙_}
 use mathlib.Core.Logic.{_≢_, inl, inr}
 use mathlib.Core.Bool.{Bool, true, false, not, _&&_, true≢false}
@@ -9,23 +9,11 @@ use lib.Dec.{eqb}
 use borrow.Author.Tests.{eq-eqb, ne-eqb}
 use Rattle.rules.specs.Slots.{at, find, some, sumOver, one, countOver, any}
 use Rattle.rules.proofs.Tests.{by-eq, by-bool, both-true, pick-yes, pick-not}
-use Rattle.rules.proofs.Slots.{find-finds, find-some, at-here, at-else, sum-same, sum-zero, sum-but}
+use Rattle.rules.proofs.Slots.{find-finds, find-some, at-here, at-else, sum-same, sum-zero, sum-swap, sum-but}
 use Rattle.rules.proofs.Climbs.{OneOf}
 use Rattle.rules.proofs.Carried.{Along}
 
 -- ---- sums
-
--- the order of two sums
-sum-swap : (n m : ℕ) (g : ℕ → ℕ → ℕ)
-    → sumOver n (λ i. sumOver m (λ j. g i j)) ≡ sumOver m (λ j. sumOver n (λ i. g i j))
-unfolding sumOver
-sum-swap zero m g = sym (sum-zero m (λ j. 0) (λ i a b. refl))
-sum-swap (suc n) m g = ap (λ x. sumOver m (λ j. g (suc n) j) + x) (sum-swap n m g)
-    ∙ sum-plus m (λ j. g (suc n) j) (λ j. sumOver n (λ i. g i j))
-  where
-    sum-plus : (k : ℕ) (a b : ℕ → ℕ) → sumOver k a + sumOver k b ≡ sumOver k (λ j. a j + b j)
-    sum-plus zero a b = refl
-    sum-plus (suc k) a b = omega (arith, sum-plus k a b)
 
 -- a sum of one term
 sum-only : (n : ℕ) (g : ℕ → ℕ) (i : ℕ) → 1 ≤ i → i ≤ n → ((j : ℕ) → j ≢ i → g j ≡ 0) → sumOver n g ≡ g i

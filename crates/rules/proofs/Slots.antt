@@ -89,6 +89,19 @@ sum-zero zero f h = refl
 sum-zero (suc n) f h =
     omega (arith, h (suc n) (omega arith) (omega arith), sum-zero n f (λ i a b. h i a (omega arith)))
 
+pub sum-add : (n : ℕ) (f g : ℕ → ℕ) → sumOver n (λ i. f i + g i) ≡ sumOver n f + sumOver n g
+unfolding sumOver
+sum-add zero f g = refl
+sum-add (suc n) f g = omega (arith, sum-add n f g)
+
+-- the order of two sums does not matter
+pub sum-swap : (n m : ℕ) (f : ℕ → ℕ → ℕ)
+    → sumOver n (λ i. sumOver m (λ j. f i j)) ≡ sumOver m (λ j. sumOver n (λ i. f i j))
+unfolding sumOver
+sum-swap zero m f = sym (sum-zero m (λ j. 0) (λ i a b. refl))
+sum-swap (suc n) m f =
+    omega (arith, sum-swap n m f, sum-add m (λ j. f (suc n) j) (λ j. sumOver n (λ i. f i j)))
+
 -- g is f but at slot i: the sums differ by the two values there
 pub sum-but : (n : ℕ) (f g : ℕ → ℕ) (i : ℕ) → 1 ≤ i → i ≤ n → ((j : ℕ) → j ≢ i → g j ≡ f j)
     → sumOver n g + f i ≡ sumOver n f + g i

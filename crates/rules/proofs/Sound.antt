@@ -1,5 +1,5 @@
--- The parts of a well-formed store, apart from "every object has a master", which a call breaks on its way; and what
--- stays when one part changes.
+-- The parts of a well-formed store, apart from "every object has one tree with one sound master", which a call breaks on
+-- its way; and what stays when one part changes.
 use Prim.Native.Nat.{ℕ, _≤_}
 use mathlib.Core.Path.{_≡_, refl, _∙_}
 use mathlib.Core.Logic.{_≢_}

@@ -1,4 +1,4 @@
--- Functions of slots. A record number ("slot") counts from 1, and 0 is no record; what the slots hold is a function of
+-- Functions of slots. A slot is a record number: it counts from 1, and 0 is no record; what the slots hold is a function of
 -- the number, so that one slot can be changed and the others stay as they are.
 use Prim.Native.Nat.{ℕ, zero, suc, _+_}
 use mathlib.Core.Bool.{Bool, true, false, not}

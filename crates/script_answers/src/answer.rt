@@ -56,7 +56,7 @@ fn push_two(out: &mut [u8], at: usize, a: u32, b: u32) -> usize
     push(out, p, b)
 }
 
-// "A new capability": volume, serial, p1, p2.
+// "a new capability": volume, serial, p1, p2.
 fn push_capability(out: &mut [u8], at: usize, x: Capability) -> usize
     requires { ⌜ at + 44 ≤ length (now out) ⌝ }
     ensures { λ r. ⌜ Pushed 44 (now (out .entry)) at (written (capabilityOf x)) (now (out .exit)) r ⌝ }
@@ -67,7 +67,7 @@ fn push_capability(out: &mut [u8], at: usize, x: Capability) -> usize
     push_two(out, p, password[0], password[1])
 }
 
-// "Sum and bytes".
+// "sum and bytes".
 fn push_message(out: &mut [u8], at: usize, sum: u32, bytes: &[u8], count: usize) -> usize
     requires { ⌜ (count ≤ length (now bytes)) × (at + 11 + 11 * count ≤ length (now out)) ⌝ }
     ensures { λ r. ⌜ Pushed (11 + 11 * count) (now (out .entry)) at (sum ∷ take count (now (bytes .entry))) (now (out .exit)) r ⌝ }

@@ -20,7 +20,7 @@ use script_text::write::put_line;
 use values::code::OUT_OF_RANGE;
 use values::limit::MAX_CAPS;
 
-// "If bad or absent, `0 2` is all it writes."
+// "if bad or absent, `0 2` is all it writes."
 pub fn bad_first_line(out: &mut [u8], at: usize) -> usize
     requires { ⌜ at + REFUSAL ≤ length (now out) ⌝ }
     ensures { λ r. ⌜ Put REFUSAL (now (out .entry)) at (lineOf (0 ∷ Code.outOfRange ∷ [])) (now (out .exit)) r ⌝ }

@@ -31,7 +31,7 @@ pub data Goes (M : Machine) : At M → List ℕ → List ℕ → At M → Type 0
   -- "Line one is supply, p1, p2"
   good : {ns : List ℕ} {s : M .Store} → length ns ≡ 3 → M .Begins ns s → Goes M opening ns [] (playing 1 s)
   bad : {ns : List ℕ} → length ns ≢ 3 → Goes M opening ns [] closed
-  -- "If bad .., `0 2` is all it writes"
+  -- "if bad .., `0 2` is all it writes"
   unplayed : {ns : List ℕ} → Goes M closed ns [] closed
   -- "Output for each line after line one: its number, counted from 1 .."
   later : {k : ℕ} {s s′ : M .Store} {ns out : List ℕ} → M .Plays k s ns out s′ → Goes M (playing k s) ns out (playing (suc k) s′)
@@ -42,7 +42,7 @@ pub record Line (M : Machine) (g : At M) (line out : List ℕ) (g′ : At M) : T
   pub means : Means line numbers
   pub goes : Goes M g numbers out g′
 
--- the last line: "If bad or absent, `0 2` is all it writes", else the totals
+-- the last line: "if bad or absent, `0 2` is all it writes", else the totals
 pub data Closes (M : Machine) : At M → List ℕ → Type 0 where
   absent : {out : List ℕ} → out ≡ lineOf (0 ∷ 2 ∷ []) → Closes M opening out
   refused : {out : List ℕ} → out ≡ lineOf (0 ∷ 2 ∷ []) → Closes M closed out

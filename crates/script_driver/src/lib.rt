@@ -90,7 +90,7 @@ pub fn feed(
     Fed { run, taken: from }
 }
 
-// "Line one .. if bad or absent, `0 2` is all it writes"; else "last `T`" and the totals.
+// "Line one .. if bad or absent, `0 2` is all it writes"; else "Last `T`" and the totals.
 fn put_end(bytes: &[u8], links: &[u16], words: &[u32], out: &mut [u8], run: Run) -> usize
     requires { ⌜ EndAsks (store (now bytes) (now links) (now words)) (now out) (run .at) ⌝ }
     ensures { λ r. ⌜ EndPut (store (now (bytes .entry)) (now (links .entry)) (now (words .entry))) (now (out .entry)) run (now (out .exit)) r ⌝ }

@@ -42,7 +42,7 @@ use Rattle.script_driver.specs.Turns as Turns
 use Rattle.script_driver.specs.Stores.{Store, Formed, stateOf, Played, stores}
 use Rattle.theorem_script.proofs.Following.{means-fit}
 use Rattle.theorem_script.specs.Events as Events
-use Rattle.theorem_script.specs.Events.{answerIn, Makes, over, call}
+use Rattle.theorem_script.specs.Events.{answerIn, MakesCalls, over, call}
 
 abbrev asStore : Store → History.Store
 asStore s = record { bytes = s .bytes; links = s .links; words = s .words }
@@ -164,7 +164,7 @@ module _ {k : ℕ} {s s′ : Store} {ns out : List ℕ} (W : Formed s) (p : Play
 record Called (k : ℕ) (s : History.Store) (nss : List (List ℕ)) (text : List ℕ) : Type 0 where
   events : List Event
   runs : Runs s events
-  makes : Makes k s nss events text
+  makes : MakesCalls k s nss events text
 
 From : At stores → List (List ℕ) → List ℕ → Type 0
 From opening ls text = Unit {0}
@@ -178,7 +178,7 @@ called-good {k} {s} {s′} {ns} {out} {text} {nss} W p fits r =
     let e : Event = event W p fits in record {
       events = e ∷ r .events;
       runs = (event-happens W p fits, r .runs);
-      makes = subst (λ (x : List ℕ). Makes k (asStore s) (ns ∷ nss) (e ∷ r .events) (x ++ text))
+      makes = subst (λ (x : List ℕ). MakesCalls k (asStore s) (ns ∷ nss) (e ∷ r .events) (x ++ text))
           (ap (λ (x : Answer). lineOf (k ∷ answerOf (op (nth ns 0)) x)) (event-answer W p fits) ∙ sym (p .text))
           (call fits (event-call W p fits) (r .makes));
     }
@@ -196,8 +196,8 @@ called-bad {k} {s} {s′} {ns} {out} {text} {nss} p e r =
     let same : asStore s′ ≡ asStore s = λ i. record { bytes = u .bytes i; links = u .links i; words = u .words i } in record {
       events = r .events;
       runs = subst (λ (x : History.Store). Runs x (r .events)) same (r .runs);
-      makes = subst (λ (x : List ℕ). Makes k (asStore s) (ns ∷ nss) (r .events) (x ++ text)) (refused-text p e)
-          (Events.bad e (subst (λ (x : History.Store). Makes (suc k) x nss (r .events) text) same (r .makes)));
+      makes = subst (λ (x : List ℕ). MakesCalls k (asStore s) (ns ∷ nss) (r .events) (x ++ text)) (refused-text p e)
+          (Events.bad e (subst (λ (x : History.Store). MakesCalls (suc k) x nss (r .events) text) same (r .makes)));
     }
 
 later-called : (text : List ℕ) (ls : List (List ℕ)) {k : ℕ} {s s′ : Store} {l ns out : List ℕ} → Means l ns → Played k s ns out s′
@@ -247,7 +247,7 @@ begun-fresh {ns} {s} b old z =
     }
 
 opened : (text : List ℕ) (ls : List (List ℕ)) {m : At stores} {ns out : List ℕ} → Fit ns → length ns ≡ 3
-    → Goes stores opening ns out m → From m ls text → (nss : List (List ℕ)) → MeanAll ls nss → Events.Ran ns nss (out ++ text)
+    → Goes stores opening ns out m → From m ls text → (nss : List (List ℕ)) → MeanAll ls nss → Events.RanCalls ns nss (out ++ text)
 unfolding From History.Demand3
 opened text ls {ns = ns} f three (good {s = s} e b) on nss h =
     let r = on (b .formed) nss h in
@@ -263,7 +263,7 @@ opened text ls {ns = ns} f three (good {s = s} e b) on nss h =
 opened text ls f three (bad n) on nss h = absurd (n three)
 
 pub script-runs : (ls : List (List ℕ)) (text ns : List ℕ) (nss : List (List ℕ)) → Lines stores opening ls text → MeanAll ls (ns ∷ nss)
-    → length ns ≡ 3 → Events.Ran ns nss text
+    → length ns ≡ 3 → Events.RanCalls ns nss text
 script-runs ls text ns nss (line {m = m} {l = l} {out = out} {text = rest} {ls = others} d on) (more g gs) three =
     let same = means-same l (d .numbers) ns (d .means) g in
     opened rest others (means-fit g) three (subst (λ (x : List ℕ). Goes stores opening x out m) same (d .goes))

@@ -17,7 +17,7 @@ use Rattle.script_answers.specs.Output.{transcript, output, MeanAll, none, more
 use Rattle.script_play.specs.Starts.{passwordIn}
 use Rattle.script_driver.specs.Turns.{opening, closed, playing, At, Goes, good, bad, unplayed, later}
 use Rattle.script_driver.specs.Turns.{Closes, absent, refused, totals, Lines, over, line, WritesOn}
-use Rattle.theorem_script.specs.Rules.{Comes, rules}
+use Rattle.theorem_script.specs.Rules.{ComesTo, rules}
 
 -- the numbers of the lines, and a text
 record Read (ls : List (List ℕ)) (text : List ℕ) (f : List (List ℕ) → List ℕ) : Type 0 where
@@ -37,7 +37,7 @@ unfolding transcript
 transcript-none k s = refl
 
 later-read : (k : ℕ) (s s′ : State) {l ns out text : List ℕ} {ls : List (List ℕ)} → Means l ns
-    → Comes k ns (lineRule s ns) out s′
+    → ComesTo k ns (lineRule s ns) out s′
     → Read ls text (transcript (suc k) s′) → Read (l ∷ ls) (out ++ text) (transcript k s)
 later-read k s s′ {l} {ns} {out} {text} {ls} m a r =
     let x = a .text in

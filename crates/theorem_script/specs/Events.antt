@@ -23,25 +23,25 @@ answerIn e = replyAnswer (e .reply) (take (e .reply .count) (e .buffer-after))
 
 -- lines of these numbers, the first of them line k, on the store s: the calls that they make, one after another, and what is
 -- written, the totals last. A bad line makes no call.
-pub data Makes : ℕ → Store → List (List ℕ) → List Event → List ℕ → Type 0 where
-  over : {k : ℕ} {s : Store} → Makes k s [] [] (totalsLine (view (s .bytes) (s .links) (s .words)))
+pub data MakesCalls : ℕ → Store → List (List ℕ) → List Event → List ℕ → Type 0 where
+  over : {k : ℕ} {s : Store} → MakesCalls k s [] [] (totalsLine (view (s .bytes) (s .links) (s .words)))
   bad : {k : ℕ} {s : Store} {ns text : List ℕ} {nss : List (List ℕ)} {es : List Event}
       → lineFits (op (nth ns 0)) ns ≡ false
-      → Makes (suc k) s nss es text
-      → Makes k s (ns ∷ nss) es (lineOf (k ∷ Code.outOfRange ∷ []) ++ text)
+      → MakesCalls (suc k) s nss es text
+      → MakesCalls k s (ns ∷ nss) es (lineOf (k ∷ Code.outOfRange ∷ []) ++ text)
   call : {k : ℕ} {s : Store} {ns text : List ℕ} {nss : List (List ℕ)} {e : Event} {es : List Event}
       → lineFits (op (nth ns 0)) ns ≡ true
       → callAt e ≡ callOf (op (nth ns 0)) ns
-      → Makes (suc k) (e .store) nss es text
-      → Makes k s (ns ∷ nss) (e ∷ es) (lineOf (k ∷ answerOf (op (nth ns 0)) (answerIn e)) ++ text)
+      → MakesCalls (suc k) (e .store) nss es text
+      → MakesCalls k s (ns ∷ nss) (e ∷ es) (lineOf (k ∷ answerOf (op (nth ns 0)) (answerIn e)) ++ text)
 
 -- a good line one, then lines of these numbers: a run of `call` from what `fresh` gives, whatever stood in the slices before, and
 -- demand 3 of it
-pub record Ran (first : List ℕ) (numbers : List (List ℕ)) (text : List ℕ) : Type 0 where
+pub record RanCalls (first : List ℕ) (numbers : List (List ℕ)) (text : List ℕ) : Type 0 where
   pub store : Store
   pub fresh : (old : Store) → Sized (old .bytes) (old .links) (old .words)
       → Fresh (nth first 0) (passwordIn first) (old .bytes) (old .links) (old .words) (store .bytes) (store .links) (store .words) 0
   pub events : List Event
   pub runs : Runs store events
-  pub makes : Makes 1 store numbers events text
+  pub makes : MakesCalls 1 store numbers events text
   pub holds : Holds (passwordIn first) store events

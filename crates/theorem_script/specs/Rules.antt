@@ -15,7 +15,7 @@ use Rattle.script_play.specs.Starts.{passwordIn}
 use Rattle.script_driver.specs.Machine.{Machine}
 
 -- the line with number k comes to r: what it writes, and the store after it
-pub record Comes (k : ℕ) (ns : List ℕ) (r : Outcome) (out : List ℕ) (s′ : State) : Type 0 where
+pub record ComesTo (k : ℕ) (ns : List ℕ) (r : Outcome) (out : List ℕ) (s′ : State) : Type 0 where
   pub text : out ≡ lineOf (k ∷ answerOf (op (nth ns 0)) (r .answer))
   pub after : s′ ≡ r .after
 
@@ -23,7 +23,7 @@ pub record Comes (k : ℕ) (ns : List ℕ) (r : Outcome) (out : List ℕ) (s′ 
 pub record Takes (k : ℕ) (s : State) (ns out : List ℕ) (s′ : State) : Type 0 where
   pub choice : Choice
   pub allowed : lineFits (op (nth ns 0)) ns ≡ true → Allowed s (callOf (op (nth ns 0)) ns) choice
-  pub comes : Comes k ns (lineWith choice s ns) out s′
+  pub comes : ComesTo k ns (lineWith choice s ns) out s′
 
 abbrev pub rulesBy : (ℕ → State → List ℕ → List ℕ → State → Type 0) → Machine
 rulesBy plays = record {
@@ -35,7 +35,7 @@ rulesBy plays = record {
 
 -- what `output` says
 abbrev pub rules : Machine
-rules = rulesBy (λ k s ns out s′. Comes k ns (lineRule s ns) out s′)
+rules = rulesBy (λ k s ns out s′. ComesTo k ns (lineRule s ns) out s′)
 
 -- "Left open are which free one is taken"
 abbrev pub rulesFree : Machine

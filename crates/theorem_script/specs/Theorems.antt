@@ -10,7 +10,7 @@ use Rattle.script_driver.specs.Turns.{At, ANSWER, Feeds, Ends, Script, WritesOn
 use Rattle.script_driver.specs.Stores.{Store, stores}
 use Rattle.script_driver.specs.Contract.{begun, Program}
 use Rattle.theorem_script.specs.Rules.{rulesFree}
-use Rattle.theorem_script.specs.Events.{Ran}
+use Rattle.theorem_script.specs.Events.{RanCalls}
 
 -- ---- every list of turns, whatever the windows' cuts and the room
 
@@ -39,7 +39,7 @@ AnySlots = (script text : List ℕ) → WritesOn rulesFree script text → Write
 
 unfoldable pub ScriptRuns : Type 0
 ScriptRuns = (input text first : List ℕ) (numbers : List (List ℕ)) → Script stores input text
-    → MeanAll (linesOf input) (first ∷ numbers) → length first ≡ 3 → Ran first numbers text
+    → MeanAll (linesOf input) (first ∷ numbers) → length first ≡ 3 → RanCalls first numbers text
 
 -- ---- a turn is a function of what comes in
 

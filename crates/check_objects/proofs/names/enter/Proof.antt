@@ -4,7 +4,7 @@ use mathlib.Core.Path.{_≡_, sym, ap₂, _∙_}
 use borrow.Author.Needs.{needs}
 use Rattle.check_rows.proofs.Chaining.{slot-entered, slot-passed, chain-starts, none-above}
 use Rattle.layout.proofs.Deciding.{yes-it}
-use Rattle.check_objects.specs.Names.{SameName, place}
+use Rattle.check_objects.specs.Names.{SameName, namePlace}
 use Rattle.check_objects.proofs.names.enter.Statement.{statement}
 use Rattle.check_objects.proofs.names.enter.Tie as tie
 
@@ -59,11 +59,11 @@ returns-2 c =
     let start = d .before .before .before .before .before .before .before .before .before in
     let t = start .pre .1 .0 in
     let q = d .place-of .ensures in
-    let e = q .0 ∙ ap₂ place (d .before .byte .ensures) (d .before .before .link2 .ensures) in
+    let e = q .0 ∙ ap₂ namePlace (d .before .byte .ensures) (d .before .before .link2 .ensures) in
     record {
       table = slot-entered t _ e (q .1) (start .pre .1 .1 .0) (start .pre .1 .1 .1);
       answer = none-above t (SameName _ _) _ e
-          (λ j s. (s .there, ap₂ place (sym (s .volume)) (sym (s .serial))))
+          (λ j s. (s .there, ap₂ namePlace (sym (s .volume)) (sym (s .serial))))
           (c .name-is-new .ensures);
     }
 

@@ -1,7 +1,7 @@
--- `place_of` is `place`, and is in the table.
+-- `place_of` is `namePlace`, and is in the table.
 use native.Mathlib.Omega.{arith}
 use mathlib.Core.Path.{refl}
-use Rattle.check_objects.specs.Names.{place}
+use Rattle.check_objects.specs.Names.{namePlace}
 use borrow.Author.Needs.{needs}
 use Rattle.check_objects.proofs.names.place_of.Statement.{statement}
 use Rattle.check_objects.proofs.names.place_of.Tie as tie
@@ -16,7 +16,7 @@ add-result : tie.Need-add-result
 add-result c = search needs
 
 returns : tie.Need-returns
-unfolding place
+unfolding namePlace
 returns c = (refl, omega arith)
 
 pub place-of-spec : {M : Type 1} → statement M
