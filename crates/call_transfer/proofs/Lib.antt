@@ -1,8 +1,6 @@
 -- stores, and blocks
-pub mod Laid
 pub mod Hops
 pub mod Copying
-pub mod Parts
 -- an object's bytes by their cells
 pub mod Places
 pub mod Apart
