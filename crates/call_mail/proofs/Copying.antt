@@ -1,43 +1,30 @@
 -- Cells copied: what stands in them after it, what does not change, and the loop that counts up.
-use Prim.Native.Nat.{ℕ, zero, suc, _+_, _≤_, _<_}
+use Prim.Native.Nat.{ℕ, suc, _+_, _≤_, _<_}
 use mathlib.Core.Path.{_≡_, refl, sym, ap, _∙_, fun-ext}
 use mathlib.Core.Logic.{_≢_}
 use mathlib.Core.List.{List}
 use native.Mathlib.Omega.{arith}
-use native.Mathlib.Decide.{ℕ-discrete}
 use lib.ListN.{length, getD, set, length-set}
-use lib.Seq.{getD-set-same, getD-set-other}
 use Rattle.layout.specs.Rows.{field, region}
 use Rattle.layout.proofs.Field.{within, field-in, field-out, region-cells}
-use Rattle.call_mail.specs.Copies.{copied, Copied}
+use Rattle.call_steps.specs.Copies.{laid, copied, Copied}
+use Rattle.call_steps.proofs.Laid.{laid-length, laid-other, laid-at}
 
 module _ (src : List ℕ) (from : ℕ) (dst : List ℕ) (to : ℕ) where
   pub length-copied : (n : ℕ) → length (copied n src from dst to) ≡ length dst
   unfolding copied
-  length-copied zero = refl
-  length-copied (suc n) = length-set (copied n src from dst to) (to + n) _ ∙ length-copied n
+  length-copied n = laid-length (λ i. to + i) (λ i. getD src (from + i) 0) dst n
 
   -- a cell that none is copied to
   pub copied-out : (n j : ℕ) → ((m : ℕ) → m < n → j ≢ to + m) → getD (copied n src from dst to) j 0 ≡ getD dst j 0
   unfolding copied
-  copied-out zero j h = refl
-  copied-out (suc n) j h =
-      getD-set-other (copied n src from dst to) (to + n) j _ 0 (h n (omega arith))
-      ∙ copied-out n j (λ m p. h m (omega arith))
+  copied-out n j h = laid-other (λ i. to + i) (λ i. getD src (from + i) 0) dst n j h
 
   -- and one that is
   pub copied-in : (n m : ℕ) → to + n ≤ length dst → m < n
       → getD (copied n src from dst to) (to + m) 0 ≡ getD src (from + m) 0
   unfolding copied
-  copied-in zero m h p = absurd (omega arith)
-  copied-in (suc n) m h p = go (ℕ-discrete m n) (λ q. copied-in n m (omega arith) q)
-    where
-      go : Dec (m ≡ n) → (m < n → getD (copied n src from dst to) (to + m) 0 ≡ getD src (from + m) 0)
-          → getD (set (copied n src from dst to) (to + n) (getD src (from + n) 0)) (to + m) 0 ≡ getD src (from + m) 0
-      go (yes e) ih =
-          rw e (getD-set-same (copied n src from dst to) (to + n) _ 0 (omega (arith, length-copied n)))
-      go (no ne) ih =
-          getD-set-other (copied n src from dst to) (to + n) (to + m) _ 0 (omega arith) ∙ ih (omega arith)
+  copied-in n m h p = laid-at (λ i. to + i) (λ i. getD src (from + i) 0) dst n m p (λ j a b. omega arith) (omega arith)
 
   -- a slot of a row, a row and a region that none is copied to
   pub field-copied-at : (n k off i : ℕ) → ((m : ℕ) → 1 ≤ i → i ≤ k → m < n → off + i ≢ to + m)
@@ -81,14 +68,14 @@ pub record Copying (src : List ℕ) (from : ℕ) (dst₀ : List ℕ) (to n : ℕ
   pub reached : i ≤ n
 
 pub copying-none : (src : List ℕ) (from : ℕ) (dst : List ℕ) (to n : ℕ) → Copying src from dst to n dst 0
-unfolding copied
+unfolding copied laid
 copying-none src from dst to n = record { done = refl; size = refl; reached = omega arith }
 
 module _ {src : List ℕ} {from : ℕ} {dst₀ : List ℕ} {to n : ℕ} {dst : List ℕ} {i : ℕ}
     (C : Copying src from dst₀ to n dst i) where
   pub copying-more : i < n → (v : ℕ) → v ≡ getD src (from + i) 0
       → Copying src from dst₀ to n (set dst (to + i) v) (i + 1)
-  unfolding copied
+  unfolding copied laid
   copying-more h v e =
       let up : suc i ≡ i + 1 = omega arith in
       record {

@@ -16,7 +16,7 @@ use Rattle.call_steps.specs.Run.{over, handedOver, overlay}
 use Rattle.call_steps.specs.Replies.{HandsOver, Fills}
 use Rattle.call_steps.proofs.Meeting.{stopped, goes-on}
 use Rattle.call_steps.proofs.Replying.{fills-done}
-use Rattle.call_mail.specs.Copies.{Copied}
+use Rattle.call_steps.specs.Copies.{Copied}
 use Rattle.call_mail.specs.Runs.{textFrom, oldest, Moved, receiveStop, receiveRun, ReceiveAsks}
 use Rattle.call_mail.proofs.Copying.{copied-length, copied-in, copied-out}
 use Rattle.call_mail.proofs.Boxes.{text-is}

@@ -21,7 +21,7 @@ use Rattle.layout.proofs.Puts.{head-puts}
 use Rattle.layout.proofs.Shown.{process-yes, cash-here, marks-here, box-here}
 use Rattle.layout.proofs.Frame.{cash-same-at, marks-same-at}
 use Rattle.call_steps.specs.Run.{Process}
-use Rattle.call_mail.specs.Copies.{copied}
+use Rattle.call_steps.specs.Copies.{copied}
 use Rattle.call_mail.specs.Runs.{messageSlot, textFrom}
 use Rattle.call_mail.proofs.Copying.{length-copied, copied-in, copied-out, field-copied, region-copied}
 use Rattle.call_mail.proofs.Boxes.{messageAt, message-is, text-is, text-same, messages-moved, messages-more}

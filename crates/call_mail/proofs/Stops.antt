@@ -14,7 +14,7 @@ use Rattle.layout.proofs.Field.{field-in}
 use Rattle.call_steps.specs.Tests.{ObjectSlot}
 use Rattle.call_steps.specs.Run.{over, Target}
 use Rattle.call_steps.proofs.Meeting.{stopped, goes-on}
-use Rattle.call_mail.specs.Copies.{copied, Copied}
+use Rattle.call_steps.specs.Copies.{copied, Copied}
 use Rattle.call_mail.specs.Runs.{messageSlot, textFrom, sendStop, placedWords, MessagePlaced, sendRun, Moved}
 use Rattle.call_mail.proofs.Copying.{length-copied}
 

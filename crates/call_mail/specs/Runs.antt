@@ -16,7 +16,7 @@ use Rattle.layout.specs.View.{isProcess}
 use Rattle.layout.specs.WellFormed.{Sized}
 use Rattle.call_steps.specs.Tests.{ObjectSlot}
 use Rattle.call_steps.specs.Run.{Target, Ran, over, handedOver, settled}
-use Rattle.call_mail.specs.Copies.{copied}
+use Rattle.call_steps.specs.Copies.{copied}
 
 -- ---- slots
 

@@ -4,9 +4,9 @@ ghost use Prim.Native.Nat.{ℕ};
 ghost use mathlib.Core.List.{List};
 ghost use Rattle.call_steps.specs.Replies.{Fills};
 ghost use Rattle.call_mail.specs.Runs.{MoveAsks, Moved, ReceiveAsks, receiveRun};
-use crate::copy::copy;
-use crate::copy::shift;
-use crate::copy::shift_words;
+use crate::shift::shift;
+use crate::shift::shift_words;
+use call_steps::copy::copy;
 use call_steps::request::Reply;
 use layout::CASH;
 use layout::COUNT;
@@ -36,8 +36,8 @@ fn move_down(bytes: &mut [u8], words: &mut [u32], i: usize)
 // The oldest message of the caller, in slot me: its bytes to the buffer's front, its sum to the caller's cash.
 pub fn receive(bytes: &mut [u8], words: &mut [u32], buffer: &mut [u8], me: usize) -> Reply
     requires { ⌜ ReceiveAsks (now bytes) (now words) (now buffer) me ⌝ }
-    ensures { λ r. ⌜ ((l : List ℕ) → Fills r (now (bytes .exit)) l (now (words .exit)) (now (buffer .entry)) (now (buffer .exit))
-        (receiveRun (now (bytes .entry)) l (now (words .entry)) me)) ⌝ }
+    ensures { λ r. ⌜ ((l : List ℕ) → Fills r (now (bytes .exit)) l (now (words .exit)) (now (buffer .entry))
+        (now (buffer .exit)) (receiveRun (now (bytes .entry)) l (now (words .entry)) me)) ⌝ }
 {
     let count = bytes[COUNT + me];
     if count == 0 {

@@ -2,7 +2,7 @@
 // target's waiting mark clears."
 ghost use Rattle.call_steps.specs.Replies.{Replies};
 ghost use Rattle.call_mail.specs.Runs.{PlaceAsks, SendAsks, MessagePlaced, sendRun};
-use crate::copy::copy;
+use call_steps::copy::copy;
 use call_steps::request::Reply;
 use call_steps::target::target;
 use layout::CASH;

@@ -11,3 +11,6 @@ pub mod Charging
 pub mod Marking
 pub mod Meeting
 pub mod Replying
+-- cells copied
+pub mod Laid
+pub mod Copying

@@ -1,7 +1,7 @@
 -- A reply and the slices left as a run: a refusal, a run that goes on, a done call with nothing to tell, bytes at the
 -- buffer's front.
 use Prim.Native.Nat.{ℕ}
-use mathlib.Core.Path.{_≡_, refl, sym, ap, _∙_, subst}
+use mathlib.Core.Path.{_≡_, refl, ap, _∙_, subst}
 use mathlib.Core.Logic.{_≢_}
 use mathlib.Core.List.{List}
 use lib.ListN.{length, take, drop}

@@ -7,3 +7,5 @@ pub mod Replies
 pub mod Tests
 pub mod Admits
 pub mod Paying
+-- what is copied
+pub mod Copies

@@ -1,4 +1,5 @@
 // What all calls share: the request and the reply, and the steps from a request to the call's own part.
+pub mod copy;
 mod groups;
 pub mod objects;
 pub mod pay;

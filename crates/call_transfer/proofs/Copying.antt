@@ -9,7 +9,9 @@ use Rattle.layout.specs.Layout as Layout
 use Rattle.layout.specs.Rows.{nextBlockOf}
 use Rattle.call_blocks.specs.Walk.{hop, Blocked}
 use Rattle.call_blocks.proofs.Hops.{hop-last}
-use Rattle.call_transfer.specs.Runs.{cellOf, laid, CopyAsks}
+use Rattle.call_steps.specs.Copies.{laid}
+use Rattle.call_steps.proofs.Copying.{laid-same}
+use Rattle.call_transfer.specs.Runs.{cellOf, CopyAsks}
 
 -- byte start + i, of n, stands in the block, if there is one more
 pub record Walking (l : List ℕ) (head start n i block : ℕ) : Type 0 where
@@ -17,14 +19,6 @@ pub record Walking (l : List ℕ) (head start n i block : ℕ) : Type 0 where
   pub block-is : i < n → block ≡ hop (nextBlockOf l) ((start + i) / 64) head
 
 -- ---- stores after stores
-
-pub laid-same : (place place′ value value′ : ℕ → ℕ) (xs : List ℕ) (n : ℕ) → ((j : ℕ) → j < n → place j ≡ place′ j)
-    → ((j : ℕ) → j < n → value j ≡ value′ j) → laid place value n xs ≡ laid place′ value′ n xs
-unfolding laid
-laid-same place place′ value value′ xs zero p v = refl
-laid-same place place′ value value′ xs (suc n) p v =
-    let rest = laid-same place place′ value value′ xs n (λ j h. p j (omega arith)) (λ j h. v j (omega arith)) in
-    λ d. set (rest d) (p n (omega arith) d) (v n (omega arith) d)
 
 laid-on : (place value : ℕ → ℕ) (xs : List ℕ) (i m : ℕ)
     → laid place value (i + m) xs ≡ laid (λ j. place (i + j)) (λ j. value (i + j)) m (laid place value i xs)

@@ -1,7 +1,5 @@
 -- stores, and blocks
-pub mod Laid
 pub mod Copying
-pub mod Parts
 -- an object's bytes by their cells
 pub mod Places
 pub mod Apart

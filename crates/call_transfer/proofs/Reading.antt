@@ -14,8 +14,9 @@ use Rattle.call_steps.specs.Run.{over, handedOver, overlay}
 use Rattle.call_steps.specs.Replies.{HandsOver, Fills}
 use Rattle.call_steps.proofs.Meeting.{stopped, goes-on}
 use Rattle.call_steps.proofs.Replying.{fills-done}
-use Rattle.call_transfer.specs.Runs.{cellOf, laid, copiedOut, range, window, part, readRun, ReadAsks}
-use Rattle.call_transfer.proofs.Laid.{laid-length, laid-other, laid-at}
+use Rattle.call_steps.specs.Copies.{laid}
+use Rattle.call_transfer.specs.Runs.{cellOf, copiedOut, range, window, part, readRun, ReadAsks}
+use Rattle.call_steps.proofs.Laid.{laid-length, laid-other, laid-at}
 use Rattle.call_transfer.proofs.Places.{part-length, part-at}
 use Rattle.call_transfer.proofs.Stops.{inside-no, inside-yes, ends-in}
 

@@ -22,7 +22,7 @@ use Rattle.layout.proofs.Frame.{cap-same, money-same, bytes-same-at}
 use Rattle.layout.proofs.Kept.{cells-kept}
 use Rattle.layout.proofs.Linking.{chain-high}
 use Rattle.call_transfer.specs.Runs.{cellOf, copiedIn, bytesIn}
-use Rattle.call_transfer.proofs.Laid.{laid-length, laid-other, laid-at}
+use Rattle.call_steps.proofs.Laid.{laid-length, laid-other, laid-at}
 use Rattle.call_transfer.proofs.Places.{bytes-in-length, byte-at}
 use Rattle.call_transfer.proofs.Apart.{low, high, chain-is, chain-long, cell-high, cells-apart, other-block}
 

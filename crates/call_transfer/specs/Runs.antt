@@ -4,7 +4,7 @@ use Prim.Native.Nat.{ℕ, zero, suc, _+_, _*_, _-_, _/_, _%_, _≤_}
 use mathlib.Core.Path.{_≡_}
 use mathlib.Core.Bool.{not}
 use mathlib.Core.List.{List, [], _∷_}
-use lib.ListN.{length, getD, set, take, drop}
+use lib.ListN.{length, getD, take, drop}
 use Rattle.rules.specs.Code as Code
 use Rattle.rules.specs.Limit as Limit
 use Rattle.rules.specs.Store.{Window, blocks}
@@ -16,6 +16,7 @@ use Rattle.layout.specs.View.{gather}
 use Rattle.layout.specs.Shape.{Chain}
 use Rattle.layout.specs.WellFormed.{Sized}
 use Rattle.call_blocks.specs.Walk.{hop, Blocked}
+use Rattle.call_steps.specs.Copies.{laid}
 use Rattle.call_steps.specs.Run.{Target, Ran, over, handedOver, settled}
 
 -- ---- places
@@ -23,11 +24,6 @@ use Rattle.call_steps.specs.Run.{Target, Ran, over, handedOver, settled}
 -- the cell of byte p of the object whose first block is head: the block of byte p comes p / 64 blocks after it
 unfoldable pub cellOf : List ℕ → ℕ → ℕ → ℕ
 cellOf l head p = Layout.DATA + hop (nextBlockOf l) (p / Limit.block) head * Limit.block + p % Limit.block
-
--- n stores to a list: of value i to place i, for each i below n, in order
-unfoldable pub laid : (place value : ℕ → ℕ) → ℕ → List ℕ → List ℕ
-laid place value zero xs = xs
-laid place value (suc n) xs = set (laid place value n xs) (place n) (value n)
 
 -- a buffer that n bytes of the object, from start on, are copied to
 abbrev pub copiedOut : List ℕ → List ℕ → ℕ → ℕ → ℕ → List ℕ → List ℕ

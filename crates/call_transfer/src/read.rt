@@ -5,12 +5,12 @@ ghost use mathlib.Core.Path.{_≡_};
 ghost use lib.ListN.{length};
 ghost use Rattle.call_steps.specs.Replies.{Fills};
 ghost use Rattle.call_transfer.specs.Runs.{CopyAsks, copiedOut, ReadAsks, readRun};
-use crate::part::copy_part;
 use crate::part::part_of;
 use crate::window::first_block;
 use crate::window::in_window;
 use call_blocks::chain::block_at;
 use call_blocks::chain::next_block;
+use call_steps::copy::copy;
 use call_steps::request::Reply;
 use layout::DATA;
 use values::code::OUTSIDE_WINDOW;
@@ -28,7 +28,7 @@ fn copy_out(bytes: &[u8], links: &[u16], buffer: &mut [u8], head: usize, start: 
         let p = start + i;
         let m = part_of(p, n - i);
         let from = DATA + block * BLOCK_SIZE + p % BLOCK_SIZE;
-        copy_part(bytes, from, buffer, i, m);
+        copy(bytes, from, buffer, i, m);
         block = next_block(links, block);
         i += m;
     }
@@ -45,8 +45,8 @@ pub fn read(
     end: u32,
 ) -> Reply
     requires { ⌜ ReadAsks (now bytes) (now links) (now words) (now buffer) k start end ⌝ }
-    ensures { λ r. ⌜ Fills r (now (bytes .entry)) (now (links .entry)) (now (words .entry)) (now (buffer .entry)) (now (buffer .exit))
-        (readRun (now (bytes .entry)) (now (links .entry)) (now (words .entry)) k start end) ⌝ }
+    ensures { λ r. ⌜ Fills r (now (bytes .entry)) (now (links .entry)) (now (words .entry)) (now (buffer .entry))
+        (now (buffer .exit)) (readRun (now (bytes .entry)) (now (links .entry)) (now (words .entry)) k start end) ⌝ }
 {
     if in_window(words, k, start, end) {
         let head = first_block(links, k);

@@ -4,12 +4,12 @@ ghost use mathlib.Core.Path.{_≡_};
 ghost use lib.ListN.{length};
 ghost use Rattle.call_steps.specs.Replies.{Replies};
 ghost use Rattle.call_transfer.specs.Runs.{CopyAsks, copiedIn, WriteAsks, writeRun};
-use crate::part::copy_part;
 use crate::part::part_of;
 use crate::window::first_block;
 use crate::window::in_window;
 use call_blocks::chain::block_at;
 use call_blocks::chain::next_block;
+use call_steps::copy::copy;
 use call_steps::request::Reply;
 use layout::DATA;
 use values::code::OUTSIDE_WINDOW;
@@ -27,7 +27,7 @@ fn copy_in(bytes: &mut [u8], links: &[u16], text: &[u8], head: usize, start: usi
         let p = start + i;
         let m = part_of(p, text.len() - i);
         let to = DATA + block * BLOCK_SIZE + p % BLOCK_SIZE;
-        copy_part(text, i, bytes, to, m);
+        copy(text, i, bytes, to, m);
         block = next_block(links, block);
         i += m;
     }

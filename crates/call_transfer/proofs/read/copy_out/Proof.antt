@@ -4,8 +4,9 @@ use mathlib.Core.Path.{_≡_, refl, ap, _∙_}
 use native.Mathlib.Omega.{arith}
 use lib.ListN.{getD, length}
 use Rattle.layout.specs.Layout as Layout
-use Rattle.call_transfer.specs.Runs.{cellOf, laid, copiedOut}
-use Rattle.call_transfer.proofs.Laid.{laid-length}
+use Rattle.call_steps.specs.Copies.{laid, copied}
+use Rattle.call_transfer.specs.Runs.{cellOf, copiedOut}
+use Rattle.call_steps.proofs.Laid.{laid-length}
 use Rattle.call_transfer.proofs.Copying.{Walking, walk-blocked, walk-starts, walk-block, part-cell, walk-on, laid-more}
 use borrow.Author.Needs.{needs}
 use Rattle.call_transfer.proofs.read.copy_out.Statement.{statement}
@@ -52,8 +53,8 @@ add-from c = omega (arith, here (c .before))
 add-from-2 : tie.Need-add-from-2 Inv-loop μ-loop
 add-from-2 c = omega (arith, here (c .before))
 
-copy-part-requires : tie.Need-copy-part-requires Inv-loop μ-loop
-copy-part-requires c κs =
+copy-requires : tie.Need-copy-requires Inv-loop μ-loop
+copy-requires c κs =
     let s = c .before .before .before .before .before .before .before .before in
     let part = c .before .part-of .ensures in (
       omega (arith, here (c .before .before), part, s .pre .0 .bytes),
@@ -71,6 +72,7 @@ loop-less : tie.Need-loop-less Inv-loop μ-loop
 loop-less c = omega (arith, c .before .before .before .before .before .part-of .ensures, c .before .before .before .before .before .before .loop-test .taken)
 
 loop-again : tie.Need-loop-again Inv-loop μ-loop
+unfolding copied
 loop-again c =
     let u = c .before .before .before .before .before in
     let v = u .before in
@@ -83,7 +85,7 @@ loop-again c =
       laid-more (λ i. i) (λ i. getD (a .bytes .now) (cellOf (a .links .now) (a .head) (a .start + i)) 0)
           (λ j. now .i + j)
           (λ j. getD (a .bytes .now) (Layout.DATA + now .block * 64 + (a .start + now .i) % 64 + j) 0)
-          (a .buffer .now) (now .buffer) _ (now .i) _ (now .inv .1) (c .before .before .before .copy-part .ensures)
+          (a .buffer .now) (now .buffer) _ (now .i) _ (now .inv .1) (c .before .before .before .copy .ensures .is)
           (λ j h. refl)
           (λ j h. ap (λ x. getD (a .bytes .now) x 0) (part-cell (s .pre .0) w (v .loop-test .taken) _ part j h)),
     )
@@ -113,7 +115,7 @@ copy-out-spec =
     mul-from
     add-from
     add-from-2
-    copy-part-requires
+    copy-requires
     next-block-requires
     add-i
     loop-less

@@ -4,8 +4,9 @@ use mathlib.Core.Path.{_≡_, refl, ap, _∙_}
 use native.Mathlib.Omega.{arith}
 use lib.ListN.{getD, length}
 use Rattle.layout.specs.Layout as Layout
-use Rattle.call_transfer.specs.Runs.{cellOf, laid, copiedIn}
-use Rattle.call_transfer.proofs.Laid.{laid-length}
+use Rattle.call_steps.specs.Copies.{laid, copied}
+use Rattle.call_transfer.specs.Runs.{cellOf, copiedIn}
+use Rattle.call_steps.proofs.Laid.{laid-length}
 use Rattle.call_transfer.proofs.Copying.{Walking, walk-blocked, walk-starts, walk-block, part-cell, walk-on, laid-more}
 use borrow.Author.Needs.{needs}
 use Rattle.call_transfer.proofs.write.copy_in.Statement.{statement}
@@ -52,8 +53,8 @@ add-to c = omega (arith, here (c .before))
 add-to-2 : tie.Need-add-to-2 Inv-loop μ-loop
 add-to-2 c = omega (arith, here (c .before))
 
-copy-part-requires : tie.Need-copy-part-requires Inv-loop μ-loop
-copy-part-requires c κs =
+copy-requires : tie.Need-copy-requires Inv-loop μ-loop
+copy-requires c κs =
     let s = c .before .before .before .before .before .before .before .before in
     let part = c .before .part-of .ensures in (
       omega (arith, part, c .before .before .loop-test .taken),
@@ -71,6 +72,7 @@ loop-less : tie.Need-loop-less Inv-loop μ-loop
 loop-less c = omega (arith, c .before .before .before .before .before .part-of .ensures, c .before .before .before .before .before .before .loop-test .taken)
 
 loop-again : tie.Need-loop-again Inv-loop μ-loop
+unfolding copied
 loop-again c =
     let u = c .before .before .before .before .before in
     let v = u .before in
@@ -83,7 +85,7 @@ loop-again c =
       laid-more (λ i. cellOf (a .links .now) (a .head) (a .start + i)) (λ i. getD (a .text .now) i 0)
           (λ j. Layout.DATA + now .block * 64 + (a .start + now .i) % 64 + j)
           (λ j. getD (a .text .now) (now .i + j) 0)
-          (a .bytes .now) (now .bytes) _ (now .i) _ (now .inv .1) (c .before .before .before .copy-part .ensures)
+          (a .bytes .now) (now .bytes) _ (now .i) _ (now .inv .1) (c .before .before .before .copy .ensures .is)
           (λ j h. part-cell (s .pre) w (v .loop-test .taken) _ part j h)
           (λ j h. refl),
     )
@@ -112,7 +114,7 @@ copy-in-spec =
     mul-to
     add-to
     add-to-2
-    copy-part-requires
+    copy-requires
     next-block-requires
     add-i
     loop-less

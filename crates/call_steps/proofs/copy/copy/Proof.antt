@@ -1,8 +1,8 @@
--- `copy_part` lends two parts to the kit's copy.
-use Rattle.call_transfer.proofs.Parts.{part-copied}
+-- `copy` lends two parts to the kit's copy.
+use Rattle.call_steps.proofs.Copying.{part-copied}
 use borrow.Author.Needs.{needs}
-use Rattle.call_transfer.proofs.part.copy_part.Statement.{statement}
-use Rattle.call_transfer.proofs.part.copy_part.Tie as tie
+use Rattle.call_steps.proofs.copy.copy.Statement.{statement}
+use Rattle.call_steps.proofs.copy.copy.Tie as tie
 
 add-copy : tie.Need-add-copy
 add-copy c = search needs
@@ -41,8 +41,8 @@ returns c =
     part-copied (a .src .now) (a .dst .now) _ (a .from) (a .to) (a .n) (s .pre .0) (s .pre .1)
     (c .before .before .copy .ensures .1)
 
-pub copy-part-spec : {M : Type 1} → statement M
-copy-part-spec =
+pub copy-spec : {M : Type 1} → statement M
+copy-spec =
     tie.close
     (tie.spec
     add-copy

@@ -2,8 +2,8 @@
 use Prim.Native.Nat.{_+_, _-_}
 use native.Mathlib.Omega.{arith}
 use Rattle.call_mail.proofs.Copying.{Copying, copying-none, copying-more, copying-all, ahead}
-use Rattle.call_mail.proofs.copy.shift_words.Statement.{statement}
-use Rattle.call_mail.proofs.copy.shift_words.Tie as tie
+use Rattle.call_mail.proofs.shift.shift_words.Statement.{statement}
+use Rattle.call_mail.proofs.shift.shift_words.Tie as tie
 
 abbrev Inv-loop : tie.InvT-loop
 Inv-loop words₀ to by n i₀ words i = Copying words₀ (to + by) words₀ to n words i

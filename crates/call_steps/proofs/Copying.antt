@@ -5,8 +5,15 @@ use mathlib.Core.List.{List, [], _++_, append-assoc, append-nil}
 use native.Mathlib.Omega.{arith}
 use lib.ListN.{length, getD, set, take, drop, length-take, length-drop, drop-of-length-le}
 use lib.Seq.{paste, paste-zero, paste-suc, take-all, length-take-le, drop-drop, getD-take, getD-drop}
-use Rattle.call_transfer.specs.Runs.{laid}
-use Rattle.call_transfer.proofs.Copying.{laid-same}
+use Rattle.call_steps.specs.Copies.{laid, copied, Copied}
+
+pub laid-same : (place place′ value value′ : ℕ → ℕ) (xs : List ℕ) (n : ℕ) → ((j : ℕ) → j < n → place j ≡ place′ j)
+    → ((j : ℕ) → j < n → value j ≡ value′ j) → laid place value n xs ≡ laid place′ value′ n xs
+unfolding laid
+laid-same place place′ value value′ xs zero p v = refl
+laid-same place place′ value value′ xs (suc n) p v =
+    let rest = laid-same place place′ value value′ xs n (λ j h. p j (omega arith)) (λ j h. v j (omega arith)) in
+    λ d. set (rest d) (p n (omega arith) d) (v n (omega arith) d)
 
 -- the cells from `to` on become those of s
 laid-paste : (d s : List ℕ) (to n : ℕ) → to + n ≤ length d → n ≤ length s
@@ -43,11 +50,13 @@ module _ (src d : List ℕ) (from to n : ℕ) (room : from + n ≤ length src) (
 pub part-copied : (src d back : List ℕ) (from to n : ℕ) → from + n ≤ length src → to + n ≤ length d
     → back ≡ take (length (take (from + n - from) (drop from src))) (take (from + n - from) (drop from src))
     ++ drop (length (take (from + n - from) (drop from src))) (take (to + n - to) (drop to d))
-    → take to d ++ (back ++ drop (to + n - to) (drop to d))
-    ≡ laid (λ j. to + j) (λ j. getD src (from + j) 0) n d
+    → Copied n src from d to (take to d ++ (back ++ drop (to + n - to) (drop to d)))
+unfolding copied
 part-copied src d back from to n room fits e =
     let p : from + n - from ≡ n = omega arith in
     let q : to + n - to ≡ n = omega arith in
-    rw q (ap (λ l. take to d ++ (l ++ drop n (drop to d)))
-    ((rw (p, q) at e) ∙ back-is src d from to n room fits)
-    ∙ pasted-is src d from to n room fits)
+    record {
+      is = rw q (ap (λ l. take to d ++ (l ++ drop n (drop to d)))
+          ((rw (p, q) at e) ∙ back-is src d from to n room fits)
+          ∙ pasted-is src d from to n room fits);
+    }

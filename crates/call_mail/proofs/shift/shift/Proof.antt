@@ -2,8 +2,8 @@
 use Prim.Native.Nat.{_+_, _-_}
 use native.Mathlib.Omega.{arith}
 use Rattle.call_mail.proofs.Copying.{Copying, copying-none, copying-more, copying-all, ahead}
-use Rattle.call_mail.proofs.copy.shift.Statement.{statement}
-use Rattle.call_mail.proofs.copy.shift.Tie as tie
+use Rattle.call_mail.proofs.shift.shift.Statement.{statement}
+use Rattle.call_mail.proofs.shift.shift.Tie as tie
 
 abbrev Inv-loop : tie.InvT-loop
 Inv-loop bytes₀ to by n i₀ bytes i = Copying bytes₀ (to + by) bytes₀ to n bytes i

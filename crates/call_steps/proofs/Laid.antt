@@ -7,7 +7,7 @@ use native.Mathlib.Omega.{arith}
 use native.Mathlib.Decide.{ℕ-discrete}
 use lib.ListN.{getD, set, length, length-set}
 use lib.Seq.{getD-set-other, getD-set-same}
-use Rattle.call_transfer.specs.Runs.{laid}
+use Rattle.call_steps.specs.Copies.{laid}
 
 module _ (place value : ℕ → ℕ) (xs : List ℕ) where
   pub laid-length : (n : ℕ) → length (laid place value n xs) ≡ length xs
