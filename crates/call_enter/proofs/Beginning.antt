@@ -19,7 +19,7 @@ use Rattle.call_steps.specs.Paying.{paidWords}
 use Rattle.call_steps.proofs.Entering.{early-range, payer-process}
 use Rattle.call_steps.proofs.Charging.{paid-view, paid-plain}
 use Rattle.call_steps.proofs.Holding.{found-held}
-use Rattle.call_enter.specs.declared.enter.Entered.{Entered}
+use Rattle.call_enter.specs.declared.entry.Entered.{Entered}
 use Rattle.call_enter.specs.Entry.{Entry, refused, shownSlot, shown, entry}
 use Rattle.call_enter.specs.Enters.{entryOf}
 use Rattle.call_enter.specs.Begins.{Begins}

@@ -17,7 +17,7 @@ use Rattle.layout.specs.View.{view}
 use Rattle.call_steps.specs.Paying.{terminatedBytes, paidWords}
 use Rattle.call_steps.specs.Run.{Ran, over}
 use Rattle.call_steps.proofs.Meeting as Settled
-use Rattle.call_enter.specs.declared.enter.Entered.{Entered}
+use Rattle.call_enter.specs.declared.entry.Entered.{Entered}
 use Rattle.call_enter.specs.Entry.{Entry, refused, shownSlot, shown, stoppedBytes, entry, OwnPart, goesOn, stepWith}
 use Rattle.call_enter.specs.Enters.{entryOf}
 use Rattle.call_enter.proofs.Entering.{entry-by, enter-two}

@@ -4,4 +4,4 @@ mod flag;
 pub mod info;
 pub mod lock;
 pub mod mark;
-pub mod revive;
+pub mod terminated;

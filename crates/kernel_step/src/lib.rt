@@ -5,7 +5,7 @@ ghost use Rattle.kernel_step.specs.Steps.{Stepped};
 
 mod own;
 
-use call_enter::enter::enter;
+use call_enter::entry::enter;
 use call_steps::request::Reply;
 use call_steps::request::Request;
 use own::own;

@@ -6,22 +6,22 @@ ghost use Rattle.kernel_step.specs.Asks.{OwnAsks};
 ghost use Rattle.kernel_step.specs.Ends.{OwnEnds};
 use call_delete::delete_cap;
 use call_derive::derive_cap;
-use call_mail::receive::receive;
-use call_mail::send::send;
+use call_mail::from_box::receive;
+use call_mail::to_box::send;
 use call_make::make_obj;
 use call_marks::info::cap_info;
 use call_marks::lock::apply_lock;
 use call_marks::mark::resume;
 use call_marks::mark::suspend;
 use call_marks::mark::wait;
-use call_marks::revive::revive;
+use call_marks::terminated::revive;
 use call_purse::deposit;
 use call_purse::withdraw;
 use call_rename::rename_obj;
 use call_steps::request::Reply;
 use call_steps::request::Request;
-use call_transfer::read::read;
-use call_transfer::write::write;
+use call_transfer::from_blocks::read;
+use call_transfer::to_blocks::write;
 use values::code::OUT_OF_RANGE;
 
 // The call's own part; slot me is the caller's, slot k that of the capability presented.
