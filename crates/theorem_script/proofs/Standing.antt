@@ -69,7 +69,7 @@ played-same k s ns out text s′ t′ p q = by-bool (lineFits (op (nth ns 0)) ns
 
 pub stores-exact : Exact stores
 stores-exact = record {
-  begins = λ ns s t b c. store-same (b .bytes ∙ sym (c .text)) (b .links ∙ sym (c .links)) (b .words ∙ sym (c .words));
+  begins = λ ns s t b c. store-same (b .bytes ∙ sym (c .bytes)) (b .links ∙ sym (c .links)) (b .words ∙ sym (c .words));
   plays = played-same;
   totals = λ s out text e f. e ∙ sym f;
 }
