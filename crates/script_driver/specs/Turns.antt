@@ -5,6 +5,7 @@ use mathlib.Core.Path.{_≡_}
 use mathlib.Core.Logic.{_≢_}
 use mathlib.Core.List.{List, [], _∷_, _++_}
 use lib.ListN.{length, take, drop}
+use Rattle.rules.specs.Code as Code
 use Rattle.script_text.specs.Numeral.{lineOf}
 use Rattle.script_text.specs.Lines.{linesOf}
 use Rattle.script_text.specs.Scan.{Means}
@@ -44,8 +45,8 @@ pub record Line (M : Machine) (g : At M) (line out : List ℕ) (g′ : At M) : T
 
 -- the last line: "if bad or absent, `0 2` is all it writes", else the totals
 pub data Closes (M : Machine) : At M → List ℕ → Type 0 where
-  absent : {out : List ℕ} → out ≡ lineOf (0 ∷ 2 ∷ []) → Closes M opening out
-  refused : {out : List ℕ} → out ≡ lineOf (0 ∷ 2 ∷ []) → Closes M closed out
+  absent : {out : List ℕ} → out ≡ lineOf (0 ∷ Code.outOfRange ∷ []) → Closes M opening out
+  refused : {out : List ℕ} → out ≡ lineOf (0 ∷ Code.outOfRange ∷ []) → Closes M closed out
   totals : {k : ℕ} {s : M .Store} {out : List ℕ} → M .Totals s out → Closes M (playing k s) out
 
 -- these lines, from here on, write the text

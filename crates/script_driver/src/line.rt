@@ -6,9 +6,10 @@ ghost use Rattle.script_driver.specs.Parts.{store, HoldAsks, Holds, Firs
 use crate::Run;
 use script_play::line::play_line;
 use script_play::start::start;
+use script_text::lines::LONGEST;
 
 // Of a line that has not ended so many bytes are held at most: one more than a line may have.
-pub const HELD: usize = 2049;
+pub const HELD: usize = LONGEST + 1;
 
 fn fewer(a: usize, b: usize) -> usize
     ensures { λ r. ⌜ r ≡ min a b ⌝ }
@@ -20,7 +21,7 @@ fn fewer(a: usize, b: usize) -> usize
 }
 
 // More bytes of a line that has not ended.
-pub fn hold(held: &mut [u8], count: usize, part: &[u8]) -> usize
+pub(crate) fn hold(held: &mut [u8], count: usize, part: &[u8]) -> usize
     requires { ⌜ HoldAsks (now held) count ⌝ }
     ensures { λ r. ⌜ Holds (now (held .entry)) count (now (part .entry)) (now (held .exit)) r ⌝ }
 {
@@ -58,7 +59,7 @@ fn first_line(
 }
 
 // A line, without its end. After a bad line one no line is played.
-pub fn one_line(
+pub(crate) fn one_line(
     bytes: &mut [u8],
     links: &mut [u16],
     words: &mut [u32],
@@ -109,7 +110,7 @@ pub fn one_line(
 }
 
 // A line that has ended, of which some bytes are held and `part` is the rest: where none is held it lies whole there, and is not copied.
-pub fn ended(
+pub(crate) fn ended(
     bytes: &mut [u8],
     links: &mut [u16],
     words: &mut [u32],

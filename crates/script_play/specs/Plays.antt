@@ -8,6 +8,7 @@ use lib.ListN.{length}
 use Rattle.rules.specs.Store.{State}
 use Rattle.rules.specs.Rights.{op}
 use Rattle.rules.specs.Limit as Limit
+use Rattle.rules.specs.Code as Code
 use Rattle.rules.specs.Call.{Answer, Outcome, Choice, code}
 use Rattle.rules.specs.Rule.{rule}
 use Rattle.rules.specs.Demand.{Allowed}
@@ -25,7 +26,7 @@ use Rattle.script_answers.specs.Room.{ANSWER}
 unfoldable pub lineWith : Choice → State → List ℕ → Outcome
 lineWith h s l = elim (lineFits (op (nth l 0)) l) [
   | true ↦ rule s (callOf (op (nth l 0)) l) h
-  | false ↦ record { answer = code 2; after = s }
+  | false ↦ record { answer = code Code.outOfRange; after = s }
 ]
 
 -- the slices as they were

@@ -2,6 +2,7 @@
 ghost use Prim.Native.Nat.{_+_, _≤_};
 ghost use mathlib.Core.List.{[], _∷_};
 ghost use lib.ListN.{length};
+ghost use Rattle.rules.specs.Code as Code;
 ghost use Rattle.script_text.specs.Numeral.{lineOf};
 ghost use Rattle.script_text.specs.Pasted.{Put};
 ghost use Rattle.script_answers.specs.Room.{REFUSAL};
@@ -13,13 +14,14 @@ use script_lines::request::request_of;
 use script_lines::text::text_of;
 use script_text::read::read_line;
 use script_text::write::put_line;
+use values::code::OUT_OF_RANGE;
 
 // "A bad line .. is answered 2".
 fn bad_line(out: &mut [u8], at: usize, number: u64) -> usize
     requires { ⌜ at + REFUSAL ≤ length (now out) ⌝ }
-    ensures { λ r. ⌜ Put REFUSAL (now (out .entry)) at (lineOf (number ∷ 2 ∷ [])) (now (out .exit)) r ⌝ }
+    ensures { λ r. ⌜ Put REFUSAL (now (out .entry)) at (lineOf (number ∷ Code.outOfRange ∷ [])) (now (out .exit)) r ⌝ }
 {
-    let others = [2u32];
+    let others = [OUT_OF_RANGE];
     put_line(out, at, number, &others)
 }
 

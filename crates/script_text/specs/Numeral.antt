@@ -6,6 +6,7 @@ use mathlib.Core.Bool.{true, false}
 use mathlib.Core.List.{List, [], _∷_, _++_}
 use lib.Dec.{ltb}
 use lib.ListN.{length, getD}
+use Rattle.rules.specs.Limit as Limit
 
 -- the digits of n, the most significant first; no number has more digits than f, if it is at most f
 unfoldable pub numeralIn : ℕ → ℕ → List ℕ
@@ -37,7 +38,7 @@ lineOf ns = spaced ns ++ (10 ∷ [])
 pub record Says (line ns : List ℕ) : Type 0 where
   pub text : line ≡ spaced ns
   pub some : 1 ≤ length ns
-  pub fits : (k : ℕ) → getD ns k 0 ≤ 4294967295
+  pub fits : (k : ℕ) → getD ns k 0 ≤ Limit.word
 
 -- a theorem that computes with numerals says `unfolding` and this name
 unfoldable pub computes : Unit {0}

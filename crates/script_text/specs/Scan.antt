@@ -6,6 +6,7 @@ use mathlib.Core.Bool.{Bool, true, false, not, _&&_}
 use mathlib.Core.List.{List, [], _∷_}
 use lib.Dec.{eqb, leb}
 use lib.ListN.{length, getD, take, drop}
+use Rattle.rules.specs.Limit as Limit
 use Rattle.script_text.specs.Numeral.{Says}
 use Rattle.script_text.specs.Lines.{longest}
 use Rattle.script_text.specs.declared.read.Number.{Number}
@@ -16,7 +17,7 @@ isDigit b = leb 48 b && leb b 57
 
 -- byte b goes on with a number whose digits so far say v: "no leading zeros", "up to 4,294,967,295"
 unfoldable pub extends : ℕ → ℕ → Bool
-extends v b = not (eqb v 0) && (isDigit b && leb (v * 10 + (b - 48)) 4294967295)
+extends v b = not (eqb v 0) && (isDigit b && leb (v * 10 + (b - 48)) Limit.word)
 
 -- a number and what stands after it
 pub record Scan : Type 0 where
@@ -59,7 +60,7 @@ pub record NoDigit (line : List ℕ) (at v : ℕ) : Type 0 where
   pub within : at < length line
   pub other : isDigit (getD line at 0) ≡ false
   pub some : v ≢ 0
-  pub fits : v ≤ 4294967295
+  pub fits : v ≤ Limit.word
 
 -- three bytes stand from place `at` on, after a digit that says v, which is not 0
 pub record Near (line : List ℕ) (at v : ℕ) : Type 0 where

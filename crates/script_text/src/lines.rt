@@ -2,6 +2,10 @@
 ghost use Prim.Native.Nat.{_≤_};
 ghost use lib.ListN.{length};
 ghost use Rattle.script_text.specs.Lines.{EndsLine};
+use values::limit::MAX_WORD;
+
+// "decimal numbers up to 4,294,967,295"
+pub(crate) const LARGEST: u64 = MAX_WORD as u64;
 
 // "lines of at most 2,048 bytes"
 pub const LONGEST: usize = 2048;

@@ -3,9 +3,11 @@ ghost use Prim.Native.Nat.{_≤_};
 ghost use mathlib.Core.Path.{_≡_};
 ghost use mathlib.Core.Logic.{_≢_};
 ghost use lib.ListN.{length};
+ghost use Rattle.rules.specs.Limit as Limit;
 ghost use Rattle.script_text.specs.Lines.{mostNumbers};
 ghost use Rattle.script_text.specs.Scan.{NoDigit, Near, ScanOnIs, NumberAt, ReadIs, LineIs};
 ghost use Rattle.script_text.specs.Scan.{isDigit, extends as Scan·extends};
+use crate::lines::LARGEST;
 use crate::lines::LONGEST;
 
 // A number, and the place after it.
@@ -16,7 +18,7 @@ struct Number {
 }
 
 // Whether a line says numbers, and how many.
-pub struct Read {
+struct Read {
     pub ok: bool,
     pub count: usize,
 }
@@ -29,18 +31,18 @@ fn is_digit(b: u8) -> bool
 
 // Byte b goes on with a number whose digits so far say `value`, which is not 0.
 fn extends(value: u64, b: u8) -> bool
-    requires { ⌜ (value ≢ 0) × (value ≤ 4294967295) ⌝ }
+    requires { ⌜ (value ≢ 0) × (value ≤ Limit.word) ⌝ }
     ensures { λ r. ⌜ r ≡ Scan·extends value b ⌝ }
 {
     if is_digit(b) {
-        return value * 10 + (b - 48) as u64 <= 4294967295;
+        return value * 10 + (b - 48) as u64 <= LARGEST;
     }
     false
 }
 
 // What goes on from place `at`, after digits that say `first`, which is not 0.
 fn digits_on(line: &[u8], at: usize, first: u64) -> Number
-    requires { ⌜ at ≤ length (now line) ⌝ ∗ ⌜ (first ≢ 0) × (first ≤ 4294967295) ⌝ }
+    requires { ⌜ at ≤ length (now line) ⌝ ∗ ⌜ (first ≢ 0) × (first ≤ Limit.word) ⌝ }
     ensures { λ r. ⌜ ScanOnIs (now (line .entry)) at first r ⌝ }
 {
     let mut value = first;
@@ -179,7 +181,7 @@ fn next_at(line: &[u8], at: usize) -> Number
 }
 
 // The numbers of a line, into the front of `out`.
-pub fn read_numbers(line: &[u8], out: &mut [u32]) -> Read
+fn read_numbers(line: &[u8], out: &mut [u32]) -> Read
     ensures { λ r. ⌜ ReadIs (now (line .entry)) (now (out .entry)) (now (out .exit)) r ⌝ }
 {
     let mut at = 0;
