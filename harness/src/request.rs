@@ -1,10 +1,10 @@
-//! A call as the verified kernel takes it: 19 numbers and the bytes that come with it; and its
+//! A call as the verified kernel takes it: 20 numbers and the bytes that come with it; and its
 //! reply, 9 numbers, as an answer.
 
 use reference::call::{Action, Answer, Call, Key, Name, Operation};
 
 /// The numbers of a request, in the order of the kernel's `Request`.
-pub const REQUEST: usize = 19;
+pub const REQUEST: usize = 20;
 /// The numbers of a reply, in the order of the kernel's `Reply`.
 pub const REPLY: usize = 9;
 
@@ -26,6 +26,7 @@ const DRAWN: usize = 12;
 const RANGE: usize = 14;
 const SUM: usize = 16;
 const LOCK: usize = 17;
+const LIMIT: usize = 19;
 
 impl Request {
     /// The call with `filler` in all fields that it does not use.
@@ -62,9 +63,10 @@ impl Request {
                 self.put(RANGE, &[*start, *end]);
                 self.text.clone_from(data);
             }
-            Action::DeriveCap { mask, start, end, p1, p2 } => {
+            Action::DeriveCap { mask, start, end, limit, p1, p2 } => {
                 self.put(RIGHTS, &[*mask]);
                 self.put(RANGE, &[*start, *end]);
+                self.put(LIMIT, &[*limit]);
                 self.put(DRAWN, &[*p1, *p2]);
             }
             Action::RenameObj { p1, p2 } => self.put(DRAWN, &[*p1, *p2]),

@@ -258,7 +258,8 @@ fn key(serial: u32, random: &mut Random) -> Key {
 }
 
 fn derive(parent: Key, p1: u32) -> Operation {
-    Operation::On(parent, Action::DeriveCap { mask: MAX_RIGHTS, start: 0, end: 512, p1, p2: 7 })
+    let (mask, start, end, limit) = (MAX_RIGHTS, 0, 512, MAX_WORD);
+    Operation::On(parent, Action::DeriveCap { mask, start, end, limit, p1, p2: 7 })
 }
 
 /// Chains 512 deep and 511 wide: the first, middle or last link is deleted, until none is left.

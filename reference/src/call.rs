@@ -50,7 +50,7 @@ pub enum Action {
     Read { start: u32, end: u32 },
     Write { start: u32, end: u32, data: Vec<u8> },
     CapInfo,
-    DeriveCap { mask: u32, start: u32, end: u32, p1: u32, p2: u32 },
+    DeriveCap { mask: u32, start: u32, end: u32, limit: u32, p1: u32, p2: u32 },
     DeleteCap,
     RenameObj { p1: u32, p2: u32 },
     Withdraw { sum: u32 },

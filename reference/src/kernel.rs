@@ -274,8 +274,8 @@ impl Store {
             Action::Read { start, end } => self.read(at, *start, *end),
             Action::Write { start, end, data } => self.write(at, *start, *end, data),
             Action::CapInfo => self.cap_info(at),
-            Action::DeriveCap { mask, start, end, p1, p2 } => {
-                self.derive_cap(at, *mask, (*start, *end), (*p1, *p2))
+            Action::DeriveCap { mask, start, end, limit, p1, p2 } => {
+                self.derive_cap(at, *mask, (*start, *end), *limit, (*p1, *p2))
             }
             Action::DeleteCap => self.delete_cap(at),
             Action::RenameObj { p1, p2 } => self.rename_obj(at, *p1, *p2),
@@ -337,6 +337,7 @@ impl Store {
         at: Place,
         mask: u32,
         (start, end): (u32, u32),
+        limit: u32,
         (p1, p2): (u32, u32),
     ) -> Outcome {
         let name = at.0;
@@ -347,7 +348,7 @@ impl Store {
         let child = Capability {
             p2,
             parent: Some(at.1),
-            moneyword: parent.moneyword,
+            moneyword: limit.min(parent.moneyword),
             start: parent.nearest(start),
             end: parent.nearest(end),
             rights: parent.rights & mask,

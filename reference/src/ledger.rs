@@ -104,8 +104,9 @@ impl Ledger {
     fn feed_action(&mut self, found: usize, action: &Action) {
         let name = self.lines[found].key.name;
         match *action {
-            Action::DeriveCap { p1, p2, .. } => {
-                self.add(Key { name, p1, p2 }, Some(found), self.balance(found));
+            Action::DeriveCap { limit, p1, p2, .. } => {
+                let first = i128::from(limit).min(self.balance(found));
+                self.add(Key { name, p1, p2 }, Some(found), first);
             }
             Action::DeleteCap => {
                 for ended in self.with_derived(found) {

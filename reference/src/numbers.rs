@@ -94,6 +94,8 @@ pub const MIN_SCRATCH: usize = 512;
 pub const TOP: u32 = 2_147_483_648;
 /// The largest 32-bit number: "the money total is at most 4,294,967,295"
 pub const MAX_WORD: u32 = 4_294_967_295;
+/// 02, CR 1: the limit of a derive_cap line that has none, which "behaves as before"
+pub const DEFAULT_LIMIT: u32 = MAX_WORD;
 /// "lines of at most 2,048 bytes ended by byte 10, which is not counted"
 pub const MAX_LINE: usize = 2_048;
 

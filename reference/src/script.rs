@@ -2,7 +2,7 @@
 
 use crate::call::{Action, Answer, Call, Key, Name, Operation};
 use crate::kernel::{Store, Totals};
-use crate::numbers::{DONE, MAX_LINE, MIN_BUFFER, MIN_SCRATCH, OUT_OF_RANGE};
+use crate::numbers::{DEFAULT_LIMIT, DONE, MAX_LINE, MIN_BUFFER, MIN_SCRATCH, OUT_OF_RANGE};
 use std::io::{self, BufRead, Write};
 
 /// Runs a script from `input` and writes its output to `output`.
@@ -200,8 +200,10 @@ fn read_action(number: u32, rest: &mut Rest) -> Option<Action> {
         }
         4 => Action::CapInfo,
         5 => {
-            let [mask, start, end, p1, p2] = rest.numbers()?;
-            Action::DeriveCap { mask, start, end, p1, p2 }
+            let [mask, start, end] = rest.numbers()?;
+            let limit = if rest.0.len() == 2 { DEFAULT_LIMIT } else { rest.number()? };
+            let [p1, p2] = rest.numbers()?;
+            Action::DeriveCap { mask, start, end, limit, p1, p2 }
         }
         6 => Action::DeleteCap,
         7 => {
@@ -219,7 +221,7 @@ fn read_action(number: u32, rest: &mut Rest) -> Option<Action> {
     })
 }
 
-/// The numbers of a call's line: the inverse of `read_call`.
+/// The numbers of a call's line, whole: `read_call` reads the call back from them.
 pub fn call_numbers(call: &Call) -> Vec<u32> {
     let mut numbers = vec![call.operation.number()];
     numbers.extend([call.caller.volume, call.caller.serial]);
@@ -245,7 +247,9 @@ fn action_numbers(action: &Action) -> Vec<u32> {
     match action {
         Action::Read { start, end } => vec![*start, *end],
         Action::Write { start, end, data } => with_bytes(&[*start, *end], data),
-        Action::DeriveCap { mask, start, end, p1, p2 } => vec![*mask, *start, *end, *p1, *p2],
+        Action::DeriveCap { mask, start, end, limit, p1, p2 } => {
+            vec![*mask, *start, *end, *limit, *p1, *p2]
+        }
         Action::RenameObj { p1, p2 } => vec![*p1, *p2],
         Action::Withdraw { sum } | Action::Deposit { sum } | Action::Revive { sum } => vec![*sum],
         Action::ApplyLock { words } => words.to_vec(),

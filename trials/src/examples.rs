@@ -81,7 +81,7 @@ pub fn definitions() -> Option<String> {
 }
 
 /// The examples.
-pub const EXAMPLES: [Example; 16] = [
+pub const EXAMPLES: [Example; 17] = [
     Example {
         name: "example",
         touches: "the script of 01",
@@ -172,6 +172,37 @@ pub const EXAMPLES: [Example; 16] = [
 6 0 1 3 9 7 8
 4 0 1 3 9 1 2
 4 0 1 3 9 3 4",
+    },
+    Example {
+        name: "limits",
+        touches:
+            "children under a limit, below, at and above the parent's moneyword; lines without one",
+        text: "1000 5 9
+1 0 1 3 16 0 8191 9 1 2
+9 0 1 3 9 1 2 100
+5 0 1 3 9 1 2 8191 0 16 40 3 4
+5 0 1 3 9 1 2 8191 0 16 101 5 6
+5 0 1 3 9 1 2 8191 0 16 7 8
+5 0 1 3 9 3 4 8191 0 16 4294967295 9 10
+5 0 1 3 9 3 4 8191 0 16 0 11 12
+4 0 1 3 9 1 2
+4 0 1 3 9 3 4
+4 0 1 3 9 5 6
+4 0 1 3 9 7 8
+4 0 1 3 9 9 10
+4 0 1 3 9 11 12
+8 0 1 3 9 11 12 1
+8 0 1 3 9 3 4 30
+8 0 1 3 9 9 10 11
+8 0 1 3 9 9 10 10
+8 0 1 3 9 5 6 60
+4 0 1 3 9 1 2
+4 0 1 3 9 3 4
+4 0 1 3 9 9 10
+9 0 1 3 9 11 12 5
+4 0 1 3 9 3 4
+5 0 1 3 9 1 2 8191 0 16 1
+5 0 1 3 9 1 2 8191 0 16 1 13 14 0",
     },
     Example {
         name: "overflow",

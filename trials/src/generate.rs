@@ -353,7 +353,20 @@ impl Generator {
         if (start > end) != self.fault() {
             (start, end) = (end, start);
         }
-        Action::DeriveCap { mask: self.rights(), start, end, p1, p2: self.word() }
+        let limit = self.limit(found.map_or(0, |c| c.moneyword));
+        Action::DeriveCap { mask: self.rights(), start, end, limit, p1, p2: self.word() }
+    }
+
+    /// derive_cap's limit beside the parent's moneyword: below, at or above it, 0, or the largest.
+    fn limit(&mut self, moneyword: u32) -> u32 {
+        match self.random.below(10) {
+            0 => 0,
+            1 => moneyword,
+            2 => moneyword.saturating_add(self.random.between(1, 3)),
+            3 | 4 => self.random.between(0, moneyword),
+            5 => self.word(),
+            _ => MAX_WORD,
+        }
     }
 
     /// A drawn p1, sometimes one that is taken in the object.
@@ -416,13 +429,28 @@ impl Generator {
     pub fn next_line(&mut self, store: &Store) -> (Vec<u8>, Option<Call>) {
         let call = self.next_call(store);
         let call = script::read_call(&script::call_numbers(&call)).unwrap_or(call);
-        let numbers: Vec<String> = script::call_numbers(&call).iter().map(u32::to_string).collect();
+        let numbers: Vec<String> = self.line_numbers(&call).iter().map(u32::to_string).collect();
         let line = numbers.join(" ").into_bytes();
         if self.random.chance(self.profile.malformed) {
             (self.mangled(line), None)
         } else {
             (line, Some(call))
         }
+    }
+
+    /// The numbers of the call's line; half of those with the default limit leave it out.
+    fn line_numbers(&mut self, call: &Call) -> Vec<u32> {
+        let mut numbers = script::call_numbers(call);
+        let action = match &call.operation {
+            Operation::On(_, action) => Some(action),
+            _ => None,
+        };
+        let default = matches!(action, Some(Action::DeriveCap { limit: DEFAULT_LIMIT, .. }));
+        if default && self.random.chance(500) {
+            // before p1 and p2
+            numbers.remove(numbers.len() - 3);
+        }
+        numbers
     }
 
     /// A line with one thing wrong.

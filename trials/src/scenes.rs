@@ -1,9 +1,10 @@
 //! Scenes that random runs must reach beside the refusals: locked callers, processes that act
-//! on themselves, and names used again.
+//! on themselves, names used again, and limits on each side of a moneyword.
 
-use reference::call::{call_kind, Call, Operation};
+use reference::call::{call_kind, Action, Call, Operation};
 use reference::claims::CheckedRun;
-use reference::numbers::{DONE, NOT_FOUND, NOT_REVIVABLE, TOP};
+use reference::numbers::{DONE, MAX_WORD, NOT_FOUND, NOT_REVIVABLE, TOP};
+use std::cmp::Ordering;
 
 /// The scenes that a call, answered with this code, makes on the run before it.
 pub fn scenes(before: &CheckedRun, call: &Call, code: u32) -> Vec<String> {
@@ -22,6 +23,11 @@ pub fn scenes(before: &CheckedRun, call: &Call, code: u32) -> Vec<String> {
                 let name = call_kind(action.number()).map_or("unknown", |kind| kind.name);
                 met.push(format!("{name} on itself answers {code}"));
             }
+            if let (Action::DeriveCap { limit, .. }, DONE) = (action, code) {
+                let place = before.store.find(call.caller, *key);
+                let moneyword = place.map_or(0, |place| before.store.moneyword(place));
+                met.extend(limited(*limit, moneyword).map(str::to_owned));
+            }
         }
         Operation::MakeObj { drawn, .. } if code == DONE => {
             let lines = &before.ledger.lines;
@@ -37,8 +43,22 @@ pub fn scenes(before: &CheckedRun, call: &Call, code: u32) -> Vec<String> {
     met
 }
 
+/// How derive_cap's limit stands to the parent's moneyword, where that is not 0.
+fn limited(limit: u32, moneyword: u32) -> Option<&'static str> {
+    if moneyword == 0 {
+        return None;
+    }
+    Some(match (limit, limit.cmp(&moneyword)) {
+        (0, _) => "limit 0",
+        (MAX_WORD, _) => "the largest limit",
+        (_, Ordering::Less) => "limit below the parent's moneyword",
+        (_, Ordering::Equal) => "limit at the parent's moneyword",
+        (_, Ordering::Greater) => "limit above the parent's moneyword",
+    })
+}
+
 /// The scenes that must be met.
-pub const SCENES: [&str; 19] = [
+pub const SCENES: [&str; 24] = [
     "locked caller, top bit set, done",
     "locked caller, top bit set, answers 5",
     "locked caller, top bit clear, done",
@@ -58,4 +78,9 @@ pub const SCENES: [&str; 19] = [
     "revive on itself answers 16",
     "name used again",
     "name of a locked process used again",
+    "limit 0",
+    "limit below the parent's moneyword",
+    "limit at the parent's moneyword",
+    "limit above the parent's moneyword",
+    "the largest limit",
 ];

@@ -15,13 +15,17 @@ fn rows(section: &str) -> Vec<Vec<&'static str>> {
     tables.map(|row| row.split('|').map(str::trim).collect()).collect()
 }
 
-/// The constants of the reference's file of numbers, by name.
+/// The constants of the reference's file of numbers, by name: a number, or an earlier name.
 fn constants(text: &'static str) -> BTreeMap<&'static str, u32> {
-    let constant = |line: &'static str| {
-        let (name, rest) = line.trim().strip_prefix("pub const ")?.split_once(':')?;
-        Some((name, number(rest.split_once('=')?.1.trim().strip_suffix(';')?)?))
-    };
-    text.lines().filter_map(constant).collect()
+    let mut found = BTreeMap::new();
+    for line in text.lines() {
+        let constant = line.trim().strip_prefix("pub const ").and_then(|c| c.split_once(':'));
+        let Some((name, rest)) = constant else { continue };
+        let value = rest.split_once('=').and_then(|(_, value)| value.trim().strip_suffix(';'));
+        let known = value.and_then(|value| number(value).or(found.get(value).copied()));
+        found.extend(known.map(|value| (name, value)));
+    }
+    found
 }
 
 fn number(digits: &str) -> Option<u32> {

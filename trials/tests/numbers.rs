@@ -7,15 +7,21 @@ const CODES: &str = include_str!("../../crates/values/src/code.rt");
 const LIMITS: &str = include_str!("../../crates/values/src/limit.rt");
 const RIGHTS: &str = include_str!("../../crates/values/src/rights.rt");
 
-/// A line `pub const NAME: type = number;`, the number perhaps in a tuple struct.
-fn constant(line: &str) -> Option<(String, u64)> {
+/// A line `pub const NAME: type = value;`: the name and the value.
+fn constant(line: &str) -> Option<(&str, &str)> {
     let (name, rest) = line.trim().strip_prefix("pub const ")?.split_once(':')?;
-    let digits = rest.split_once('=')?.1.chars().filter(char::is_ascii_digit);
-    Some((name.to_owned(), digits.collect::<String>().parse().ok()?))
+    Some((name, rest.split_once('=')?.1.trim().strip_suffix(';')?))
 }
 
-fn constants(text: &str) -> BTreeMap<String, u64> {
-    text.lines().filter_map(constant).collect()
+/// All that are a number, perhaps in a tuple struct, or an earlier name.
+fn constants(text: &str) -> BTreeMap<&str, u64> {
+    let mut found = BTreeMap::new();
+    for (name, value) in text.lines().filter_map(constant) {
+        let digits: String = value.chars().filter(char::is_ascii_digit).collect();
+        let known = digits.parse().ok().or(found.get(value).copied());
+        found.extend(known.map(|value| (name, value)));
+    }
+    found
 }
 
 #[test]

@@ -169,7 +169,8 @@ fn bad_lines() {
     }
 }
 
-/// Too few and too many numbers for each call. More numbers after send's are its message.
+/// Too few and too many numbers for each call. More numbers after send's are its message, and derive_cap's
+/// line may lack one, its limit.
 #[test]
 fn counts_of_numbers() {
     let table = [
@@ -177,7 +178,7 @@ fn counts_of_numbers() {
         "2 0 1 0 1 5 9 0 0",
         "3 0 1 0 1 5 9 0 0",
         "4 0 1 0 1 5 9",
-        "5 0 1 0 1 5 9 0 0 0 1 1",
+        "5 0 1 0 1 5 9 0 0 0 0 1 1",
         "6 0 1 0 1 5 9",
         "7 0 1 0 1 5 9 1 1",
         "8 0 1 0 1 5 9 0",
@@ -196,7 +197,8 @@ fn counts_of_numbers() {
         let numbers: Vec<&str> = line.split(' ').collect();
         for count in 1..numbers.len() {
             let short = numbers[..count].join(" ");
-            assert!(answer(&short).starts_with("1 2\n"), "{short}");
+            let lacks_limit = at + 1 == 5 && count + 1 == numbers.len();
+            assert_eq!(answer(&short).starts_with("1 2\n"), !lacks_limit, "{short}");
         }
         let longer = answer(&format!("{line} 0"));
         assert_eq!(longer.starts_with("1 2\n"), at + 1 != 13, "{line} 0");

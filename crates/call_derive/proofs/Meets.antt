@@ -1,6 +1,6 @@
 -- derive_cap's run is what the rules give of its own part: 01, "derive_cap" of "What each call refuses, in order"; and
 -- what its code asks follows from well-formedness.
-use Prim.Native.Nat.{ℕ, _≤_}
+use Prim.Native.Nat.{ℕ, _≤_, min}
 use mathlib.Core.Path.{_≡_, refl, sym, ap, _∙_}
 use mathlib.Core.Logic.{_≢_}
 use mathlib.Core.List.{List}
@@ -15,7 +15,7 @@ use Rattle.rules.specs.Changes.{newCap}
 use Rattle.rules.specs.Calls.{child, deriveCapRefuses, deriveCapDoes, refuses, does}
 use Rattle.rules.specs.Demand.{FreeCap, Open}
 use Rattle.rules.proofs.Tests.{by-bool, by-eq}
-use Rattle.layout.specs.Rows.{ownerOf, firstChildOf, moneyOf}
+use Rattle.layout.specs.Rows.{ownerOf, firstChildOf}
 use Rattle.layout.specs.View.{view}
 use Rattle.layout.specs.Shape.{Shape}
 use Rattle.layout.specs.WellFormed.{WellFormed}
@@ -33,7 +33,7 @@ use Rattle.call_steps.proofs.Sharing.{p1-taken-is}
 use Rattle.call_grow.specs.Made.{freeCap, newWords}
 use Rattle.call_grow.proofs.Making.{made-words}
 use Rattle.call_grow.proofs.Showing.{new-shows}
-use Rattle.call_derive.specs.Runs.{childIn, derivedLinks, deriveStop, derived, deriveRun, DeriveAsks}
+use Rattle.call_derive.specs.Runs.{childIn, derivedLinks, moneyUnder, deriveStop, derived, deriveRun, DeriveAsks}
 use Rattle.call_derive.proofs.Linked.{Relinked}
 use Rattle.call_derive.proofs.Shapes.{child-high, made, linked, derived-shape}
 
@@ -73,6 +73,9 @@ module _ {b l w : List ℕ} (f : WellFormed b l w) (c : Call) (me k : ℕ) (h : 
   abbrev m : List ℕ
   m = derivedLinks l i k x (firstChildOf l k)
 
+  abbrev v : ℕ
+  v = moneyUnder w k (c .limit)
+
   abbrev taking : Choice
   taking = record { object = 0; cap = i }
 
@@ -106,28 +109,28 @@ module _ {b l w : List ℕ} (f : WellFormed b l w) (c : Call) (me k : ℕ) (h : 
     unfolding childIn
     parent-is = refl
 
-    shows : view b m (newWords w i x (moneyOf w k)) ≡ newCap s i x (moneyOf w k)
-    shows = relinked-shows b (newWords w i x (moneyOf w k))
+    shows : view b m (newWords w i x v) ≡ newCap s i x v
+    shows = relinked-shows b (newWords w i x v)
         (linked l (f .shape) k x (f .sized .links) (h .live) nz object-is parent-is)
-        ∙ new-shows b l w i x (firstChildOf l k) (moneyOf w k) (f .sized .links) (f .sized .words) (F .low) (F .high)
+        ∙ new-shows b l w i x (firstChildOf l k) v (f .sized .links) (f .sized .words) (F .low) (F .high)
         (λ z. h .live (sym object-is ∙ z))
 
-    rules-is : does s c me k taking deriveCap ≡ outcome (derived b l w k x)
+    rules-is : does s c me k taking deriveCap ≡ outcome (derived b l w k x (c .limit))
     unfolding does deriveCapDoes derived childIn
     rules-is =
-        hands-back-is (s .object (s .cap k .object) .name) (c .drawn) (newCap s i (child s c me k) (s .money k)) s
+        hands-back-is (s .object (s .cap k .object) .name) (c .drawn) (newCap s i (child s c me k) (min (c .limit) (s .money k))) s
         ∙ (λ t. record {
           answer = handsBack (s .object (cap-object b l w k t) .name) (c .drawn) s .answer;
-          after = newCap s i (child-is t) (money-here b l w k (h .live) t);
+          after = newCap s i (child-is t) (min (c .limit) (money-here b l w k (h .live) t));
         })
         ∙ ap (λ r. record { answer = handsBack (s .object (ownerOf l k) .name) (c .drawn) s .answer; after = r }) (sym shows)
 
-    takes : op (c .number) ≡ deriveCap → Takes s c me k deriveCap taking (derived b l w k x)
+    takes : op (c .number) ≡ deriveCap → Takes s c me k deriveCap taking (derived b l w k x (c .limit))
     unfolding derived FreeCap
     takes e =
         let M = made l (f .shape) k x (f .sized .links) (h .live) nz object-is parent-is in
         let R = linked l (f .shape) k x (f .sized .links) (h .live) nz object-is parent-is in
-        let W = made-words w i x (moneyOf w k) (f .sized .words) (F .low) (F .high) in
+        let W = made-words w i x v (f .sized .words) (F .low) (F .high) in
         record {
           free = open-derived s c taking e (F .low, F .high, first-open b l w (f .shape .caps) F);
           rules = rules-is;
@@ -141,9 +144,9 @@ module _ {b l w : List ℕ} (f : WellFormed b l w) (c : Call) (me k : ℕ) (h : 
         }
 
   pub derive-meets : op (c .number) ≡ deriveCap
-      → Meets s c me k deriveCap (deriveRun b l w k (c .rights) (c .range) (c .drawn))
+      → Meets s c me k deriveCap (deriveRun b l w k (c .rights) (c .range) (c .drawn) (c .limit))
   unfolding deriveRun
-  derive-meets e = meets-taken b l w c me k deriveCap taking f (deriveStop b l w k (c .drawn .p1)) (derived b l w k x)
+  derive-meets e = meets-taken b l w c me k deriveCap taking f (deriveStop b l w k (c .drawn .p1)) (derived b l w k x (c .limit))
       stop-is (λ z. takes (some-free z) e)
 
 -- ---- what the code asks

@@ -1,5 +1,5 @@
 -- The run by what the code found in the cells: which of its refusals stops it, or what it stores.
-use Prim.Native.Nat.{ℕ, _+_}
+use Prim.Native.Nat.{ℕ, _+_, min}
 use mathlib.Core.Path.{_≡_, refl, sym, ap, _∙_}
 use mathlib.Core.Logic.{_≢_}
 use mathlib.Core.Bool.{Bool, true, false}
@@ -15,7 +15,7 @@ use Rattle.rules.specs.Call.{handsBack}
 use Rattle.rules.specs.Refusals.{_when_, first}
 use Rattle.rules.specs.Calls.{moved}
 use Rattle.layout.specs.Layout as Layout
-use Rattle.layout.specs.Rows.{ownerOf, moneyOf}
+use Rattle.layout.specs.Rows.{ownerOf}
 use Rattle.layout.specs.View.{view}
 use Rattle.layout.proofs.Field.{row}
 use Rattle.call_steps.specs.declared.request.Reply.{Reply}
@@ -25,7 +25,7 @@ use Rattle.call_steps.specs.Tests.{CapSlot, taken}
 use Rattle.call_steps.proofs.Replying.{replies-stopped, replies-done}
 use Rattle.call_grow.specs.declared.cap.NewCap.{NewCap}
 use Rattle.call_grow.specs.Made.{capOf, freeCap, newWords, Makes}
-use Rattle.call_derive.specs.Runs.{childIn, IsChild, derivedLinks, Adds, deriveStop, derived, deriveRun}
+use Rattle.call_derive.specs.Runs.{childIn, IsChild, derivedLinks, moneyUnder, Adds, deriveStop, derived, deriveRun}
 
 -- ---- the child
 
@@ -51,13 +51,13 @@ child-cells l w k rights range drawn at v q ev eq =
 
 -- ---- the child linked; n is the slot of the next sibling, r that of the record made
 
-pub added : (l w : List ℕ) (k : ℕ) (x : Cap) (next m r n : ℕ) (l′ w′ : List ℕ) → CapSlot k
-    → Makes l w x next m r l′ w′ → n ≡ next → m ≡ getD w (Layout.MONEY + k) 0
-    → Adds l w k x next (set (set l′ (Layout.«FIRST_CHILD» + k) r) (Layout.«PREV_CAP» + n) r) w′
+pub added : (l w : List ℕ) (k : ℕ) (x : Cap) (next limit m r n : ℕ) (l′ w′ : List ℕ) → CapSlot k
+    → Makes l w x next m r l′ w′ → n ≡ next → m ≡ min limit (getD w (Layout.MONEY + k) 0)
+    → Adds l w k x next limit (set (set l′ (Layout.«FIRST_CHILD» + k) r) (Layout.«PREV_CAP» + n) r) w′
 unfolding derivedLinks
-added l w k x next m r n l′ w′ at M e q = record {
+added l w k x next limit m r n l′ w′ at M e q = record {
   links = rw (M .links, M .slot, e);
-  words = M .words ∙ ap (newWords w (freeCap l) x) (q ∙ sym (row Layout.MONEY w k at));
+  words = M .words ∙ ap (newWords w (freeCap l) x) (q ∙ ap (min limit) (sym (row Layout.MONEY w k at)));
 }
 
 -- ---- the call
@@ -80,33 +80,33 @@ module _ {b l w : List ℕ} {k o p1 : ℕ} {t : Bool} (T : Tested b l w k o p1 t
   unfolding deriveStop
   stop-is e f = rw (← object-is, ← T .test, e, f)
 
-module _ {b l w : List ℕ} {k o : ℕ} {t : Bool} (rights : ℕ) (range : Window) (drawn : Password)
+module _ {b l w : List ℕ} {k o : ℕ} {t : Bool} (rights : ℕ) (range : Window) (drawn : Password) (limit : ℕ)
     (T : Tested b l w k o (drawn .p1) t) {r : Reply} where
-  pub stopped-12 : t ≡ true → Refuses 12 r → Replies r b l w (deriveRun b l w k rights range drawn)
+  pub stopped-12 : t ≡ true → Refuses 12 r → Replies r b l w (deriveRun b l w k rights range drawn limit)
   unfolding deriveRun first _when_
   stopped-12 e R = replies-stopped _ 12 (stop-is T e refl) (omega arith) R
 
-  pub stopped-13 : t ≡ false → freeCap l ≡ 0 → Refuses 13 r → Replies r b l w (deriveRun b l w k rights range drawn)
+  pub stopped-13 : t ≡ false → freeCap l ≡ 0 → Refuses 13 r → Replies r b l w (deriveRun b l w k rights range drawn limit)
   unfolding deriveRun first _when_
   stopped-13 e z R = replies-stopped _ 13 (stop-is T e (eq-eqb (freeCap l) 0 z)) (omega arith) R
 
   -- the record made is the child
   child-made : (n : Name) → n ≡ view b l w .object o .name → Gives (handsBack n drawn) r
-      → (x : NewCap) → IsChild l w k rights range drawn x → {l′ w′ : List ℕ} → Adds l w k (capOf x) (x .next) l′ w′
-      → Replies r b l′ w′ (derived b l w k (childIn l w k rights range drawn))
+      → (x : NewCap) → IsChild l w k rights range drawn x → {l′ w′ : List ℕ} → Adds l w k (capOf x) (x .next) limit l′ w′
+      → Replies r b l′ w′ (derived b l w k (childIn l w k rights range drawn) limit)
   unfolding derived childIn
   child-made n q H x C A = record {
     none = H .none;
     answer = H .answer (view b l w) ∙ ap (λ m. handsBack m drawn (view b l w) .answer) (q ∙ ap (λ i. view b l w .object i .name) (object-is T));
     bytes = refl;
     links = A .links ∙ (λ i. derivedLinks l (freeCap l) k (C .cap i) (C .next i));
-    words = A .words ∙ (λ i. newWords w (freeCap l) (C .cap i) (moneyOf w k));
+    words = A .words ∙ (λ i. newWords w (freeCap l) (C .cap i) (moneyUnder w k limit));
   }
 
   pub goes-on : t ≡ false → freeCap l ≢ 0 → (n : Name) → n ≡ view b l w .object o .name → Gives (handsBack n drawn) r
-      → (x : NewCap) → IsChild l w k rights range drawn x → {l′ w′ : List ℕ} → Adds l w k (capOf x) (x .next) l′ w′
-      → Replies r b l′ w′ (deriveRun b l w k rights range drawn)
+      → (x : NewCap) → IsChild l w k rights range drawn x → {l′ w′ : List ℕ} → Adds l w k (capOf x) (x .next) limit l′ w′
+      → Replies r b l′ w′ (deriveRun b l w k rights range drawn limit)
   unfolding deriveRun first _when_
   goes-on e nz n q H x C A =
-      replies-done b l w (derived b l w k (childIn l w k rights range drawn))
+      replies-done b l w (derived b l w k (childIn l w k rights range drawn) limit)
       (stop-is T e (ne-eqb (freeCap l) 0 nz)) (child-made n q H x C A)

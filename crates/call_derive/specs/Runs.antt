@@ -1,6 +1,6 @@
 -- derive_cap's own part, exactly: its refusals by tests on the cells, and what it does by stores to them. The slices are
 -- those that the fee left; `k` is the slot of the capability presented.
-use Prim.Native.Nat.{ℕ, _+_, _≤_}
+use Prim.Native.Nat.{ℕ, _+_, _≤_, min}
 use mathlib.Core.Path.{_≡_}
 use mathlib.Core.Logic.{_≢_}
 use mathlib.Core.List.{List, [], _∷_}
@@ -62,10 +62,14 @@ pub record AddAsks (l w : List ℕ) (k next : ℕ) : Type 0 where
   pub low : 1 ≤ freeCap l
   pub high : freeCap l ≤ Limit.caps
 
--- l′ and w′ are what is left of the slices l and w; the child has the parent's moneyword
-pub record Adds (l w : List ℕ) (k : ℕ) (x : Cap) (next : ℕ) (l′ w′ : List ℕ) : Type 0 where
+-- the child's moneyword: the smaller of the limit and the parent's
+abbrev pub moneyUnder : List ℕ → ℕ → ℕ → ℕ
+moneyUnder w k limit = min limit (moneyOf w k)
+
+-- l′ and w′ are what is left of the slices l and w
+pub record Adds (l w : List ℕ) (k : ℕ) (x : Cap) (next limit : ℕ) (l′ w′ : List ℕ) : Type 0 where
   pub links : l′ ≡ derivedLinks l (freeCap l) k x next
-  pub words : w′ ≡ newWords w (freeCap l) x (moneyOf w k)
+  pub words : w′ ≡ newWords w (freeCap l) x (moneyUnder w k limit)
 
 -- ---- the call: 12 p1 is taken in the object; 13 512 capabilities live, so that no record is free
 
@@ -76,17 +80,17 @@ deriveStop b l w k p1 = first
     ∷ [])
 
 -- the child made, and handed back as drawn
-unfoldable pub derived : List ℕ → List ℕ → List ℕ → ℕ → Cap → Ran
-derived b l w k x = record {
+unfoldable pub derived : List ℕ → List ℕ → List ℕ → ℕ → Cap → ℕ → Ran
+derived b l w k x limit = record {
   answer = handsBack (view b l w .object (ownerOf l k) .name) (x .password) (view b l w) .answer;
   bytes = b;
   links = derivedLinks l (freeCap l) k x (firstChildOf l k);
-  words = newWords w (freeCap l) x (moneyOf w k);
+  words = newWords w (freeCap l) x (moneyUnder w k limit);
 }
 
-unfoldable pub deriveRun : List ℕ → List ℕ → List ℕ → ℕ → ℕ → Window → Password → Ran
-deriveRun b l w k rights range drawn =
-    settled (deriveStop b l w k (drawn .p1)) b l w (derived b l w k (childIn l w k rights range drawn))
+unfoldable pub deriveRun : List ℕ → List ℕ → List ℕ → ℕ → ℕ → Window → Password → ℕ → Ran
+deriveRun b l w k rights range drawn limit =
+    settled (deriveStop b l w k (drawn .p1)) b l w (derived b l w k (childIn l w k rights range drawn) limit)
 
 -- what the code asks
 pub record DeriveAsks (b l w : List ℕ) (k rights : ℕ) : Type 0 where

@@ -1,5 +1,5 @@
-// "The child has the parent's moneyword, the rights in both sets, and each end of the range moved to the nearest point of
-// the parent's window."
+// "The child has .. the rights in both sets, and each end of the range moved to the nearest point of the parent's window."
+// 02, CR 1: "The child's moneyword is the smaller of the limit and the parent's moneyword."
 ghost use Rattle.values.specs.Words.{passwordOf, windowOf};
 ghost use Rattle.call_grow.specs.Made.{capOf};
 ghost use Rattle.call_derive.specs.Runs.{ChildAsks, IsChild, AddAsks, Adds};
@@ -46,15 +46,16 @@ pub(crate) fn child_of(
     }
 }
 
-// The record x is made, with the moneyword of the capability in slot k, and becomes its first child.
-pub(crate) fn add_child(links: &mut [u16], words: &mut [u32], k: usize, x: NewCap)
+// The record x is made, with the moneyword of the capability in slot k up to the limit, and becomes its first child.
+pub(crate) fn add_child(links: &mut [u16], words: &mut [u32], k: usize, x: NewCap, limit: u32)
     requires { ⌜ AddAsks (now links) (now words) k (x .next) ⌝ }
-    ensures { λ _. ⌜ Adds (now (links .entry)) (now (words .entry)) k (capOf x) (x .next) (now (links .exit))
-        (now (words .exit)) ⌝ }
+    ensures { λ _. ⌜ Adds (now (links .entry)) (now (words .entry)) k (capOf x) (x .next) limit
+        (now (links .exit)) (now (words .exit)) ⌝ }
 {
     let next = slot(x.next);
     let amount = words[MONEY + k];
-    let i = new_cap(links, words, x, Moneyword(amount));
+    let purse = Moneyword(amount).at_most(limit);
+    let i = new_cap(links, words, x, purse);
     let link = i as u16;
     links[FIRST_CHILD + k] = link;
     links[PREV_CAP + next] = link;

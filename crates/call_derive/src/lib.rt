@@ -26,11 +26,12 @@ pub fn derive_cap(
     rights: u32,
     range: Window,
     drawn: [u32; 2],
+    limit: u32,
 ) -> Reply
     requires { ⌜ DeriveAsks (now bytes) (now links) (now words) k rights ⌝ }
     ensures { λ r. ⌜ Replies r (now (bytes .entry)) (now (links .exit)) (now (words .exit))
         (deriveRun (now (bytes .entry)) (now (links .entry)) (now (words .entry)) k rights (windowOf range)
-        (passwordOf drawn)) ⌝ }
+        (passwordOf drawn) limit) ⌝ }
 {
     let o = slot(links[OWNER + k]);
     if p1_taken(links, words, o, drawn[0]) {
@@ -41,6 +42,6 @@ pub fn derive_cap(
     }
     let name = name_at(bytes, links, o);
     let x = child_of(links, words, k, rights, range, drawn);
-    add_child(links, words, k, x);
+    add_child(links, words, k, x, limit);
     Reply::hands_back(name, drawn)
 }

@@ -32,6 +32,7 @@ callOf r text buffer scratch = record {
   text = text;
   buffer = buffer;
   scratch = scratch;
+  limit = r .limit;
 }
 
 -- with the bytes at the buffer's front

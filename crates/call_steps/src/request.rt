@@ -50,6 +50,7 @@ pub struct Request {
     pub flag: u32,
     pub rights: u32,
     pub sum: u32,
+    pub limit: u32,
 }
 
 // 0 or the refusal, and the results; `count` bytes stand at the buffer's front. Numbers that are handed over side by side

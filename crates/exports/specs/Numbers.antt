@@ -12,13 +12,13 @@ use Rattle.kernel_call.specs.Calls.{Calls}
 
 -- how many numbers a request and a reply have
 abbrev pub requestLength : ℕ
-requestLength = 19
+requestLength = 20
 
 abbrev pub replyLength : ℕ
 replyLength = 9
 
 -- the number, the caller, the capability presented, the name, size, flag, rights, the password drawn, the range, the
--- sum, the lock
+-- sum, the lock, the limit
 unfoldable pub requestOf : List ℕ → Request
 requestOf l = record {
   number = getD l 0 0;
@@ -35,6 +35,7 @@ requestOf l = record {
   range = record { start = getD l 14 0; end = getD l 15 0 };
   sum = getD l 16 0;
   lock = getD l 17 0 ∷ getD l 18 0 ∷ [];
+  limit = getD l 19 0;
 }
 
 -- the code, a new capability, length, moneyword, sum, and how many bytes stand at the buffer's front

@@ -17,7 +17,7 @@ use values::code::OUT_OF_RANGE;
 use values::window::Window;
 
 // How many numbers a request and a reply have.
-const REQUEST: usize = 19;
+const REQUEST: usize = 20;
 
 const REPLY: usize = 9;
 
@@ -45,7 +45,7 @@ pub extern "C" fn store_fresh(
     kernel_fresh::fresh(supply, [p1, p2], bytes, links, words)
 }
 
-// The 19 numbers of a request.
+// The 20 numbers of a request.
 fn request_of(numbers: &[u32]) -> Request
     requires { ⌜ length (now numbers) ≡ requestLength ⌝ }
     ensures { λ r. ⌜ r ≡ requestOf (now (numbers .entry)) ⌝ }
@@ -77,6 +77,7 @@ fn request_of(numbers: &[u32]) -> Request
         },
         sum: numbers[16],
         lock: [numbers[17], numbers[18]],
+        limit: numbers[19],
     }
 }
 
@@ -118,7 +119,7 @@ fn unfit(bytes: &[u8], links: &[u16], words: &[u32]) -> u32
     ILL_FORMED
 }
 
-// Makes a call: 19 numbers of a request, 9 of the reply. Where either slice has another length, nothing is written, and
+// Makes a call: 20 numbers of a request, 9 of the reply. Where either slice has another length, nothing is written, and
 // it is 1 on a store that is not well formed, else 2.
 #[no_mangle]
 pub extern "C" fn store_call(

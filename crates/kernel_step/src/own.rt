@@ -51,7 +51,7 @@ pub(crate) fn own(
         2 => read(bytes, links, words, buffer, k, range.start, range.end),
         3 => write(bytes, links, words, text, k, range.start, range.end),
         4 => cap_info(words, k),
-        5 => derive_cap(bytes, links, words, k, req.rights, range, drawn),
+        5 => derive_cap(bytes, links, words, k, req.rights, range, drawn, req.limit),
         6 => delete_cap(bytes, links, words, scratch, k),
         7 => rename_obj(bytes, links, words, scratch, k, drawn),
         8 => withdraw(links, words, me, k, req.sum),

@@ -1,5 +1,5 @@
 -- derive_cap: the second generic edit, with a child.
-use Prim.Native.Nat.{ℕ, _≤_}
+use Prim.Native.Nat.{ℕ, _≤_, min}
 use mathlib.Core.Path.{_≡_, refl, sym, ap, _∙_}
 use mathlib.Core.Logic.{_≢_}
 use mathlib.Core.Bool.{Bool, false, _&&_, true≢false}
@@ -75,6 +75,10 @@ module _ (s : State) (G : Formed s) (c : Call) (me k : ℕ) (W : Words c) (r : R
   unfolding child
   up = not-zero s (G .caps) k giver
 
+  -- the child's moneyword
+  abbrev m : ℕ
+  m = min (c .limit) (s .money k)
+
   joins : Joins (s .cap) (h .cap) (child s c me k) free alive (s .object)
   unfolding child FreeCap argumentsFit ordered refuses deriveCapRefuses _when_ both
   joins =
@@ -103,9 +107,9 @@ module _ (s : State) (G : Formed s) (c : Call) (me k : ℕ) (W : Words c) (r : R
   pub keep-derive : Kept s (deriveCapDoes s c me k h .after)
   unfolding deriveCapDoes handsBack newCap withMoney withCap
   keep-derive = record {
-    formed = formed-of (sound-add s (sound-of G) i₀ x (s .money k) free alive joins (G .money k))
+    formed = formed-of (sound-add s (sound-of G) i₀ x m free alive joins (omega (arith, G .money k)))
         (λ j e. add-master (s .cap) i₀ x free alive (object-some (G .objects) j e) (G .master j e));
-    total = total-add-child s (sound-of G) i₀ x (s .money k) free alive joins up;
+    total = total-add-child s (sound-of G) i₀ x m free alive joins up;
   }
 
   pub link-derive : (l : Ledger) (K : Linking s l)
@@ -113,6 +117,6 @@ module _ (s : State) (G : Formed s) (c : Call) (me k : ℕ) (W : Words c) (r : R
   unfolding deriveCapDoes handsBack entry newLine child
   link-derive l K =
       let f = K .linked .fits k giver in
-      link-add s (sound-of G) i₀ x (s .money k) free alive joins l K
-      (newLine l c (K .num k) (l .line (K .num k) .name) (K .num k) (balance l (K .num k)))
-      (f .name) refl refl (f .low) (balance-money s l G K k giver)
+      link-add s (sound-of G) i₀ x m free alive joins l K
+      (newLine l c (K .num k) (l .line (K .num k) .name) (K .num k) (min (c .limit) (balance l (K .num k))))
+      (f .name) refl refl (f .low) (ap (min (c .limit)) (balance-money s l G K k giver))

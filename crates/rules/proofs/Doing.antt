@@ -1,5 +1,5 @@
 -- Each done call on two carried states: equal answers, and carried states after it, whatever it takes in each.
-use Prim.Native.Nat.{ℕ, _+_, _-_}
+use Prim.Native.Nat.{ℕ, _+_, _-_, min}
 use mathlib.Core.Path.{_≡_, refl, sym, ap, _∙_, subst}
 use mathlib.Core.Logic.{_≢_}
 use mathlib.Core.Bool.{Bool, true, false, true≢false, false≢true}
@@ -216,9 +216,9 @@ module _ {m : Maps} (s t : State) (S : Formed s) (T : Formed t) (A : CarriedBy m
       answer = let n = same-name in λ d. handsBack (n d) (c .drawn) s .answer;
       after = record {
         maps = _;
-        by = adds-carried A (h .cap) (g .cap) (child s c me k) (child t c me′ k′) (s .money k) (t .money k′)
-            (omega (arith, F .0)) (not-lives s (h .cap) (F .2)) (not-lives t (g .cap) (G .2))
-            (u-lives s t S T A) (S .caps .parent) l (λ n. l) child-carried same-money;
+        by = adds-carried A (h .cap) (g .cap) (child s c me k) (child t c me′ k′)
+            (min (c .limit) (s .money k)) (min (c .limit) (t .money k′)) (omega (arith, F .0)) (not-lives s (h .cap) (F .2)) (not-lives t (g .cap) (G .2))
+            (u-lives s t S T A) (S .caps .parent) l (λ n. l) child-carried (ap (min (c .limit)) same-money);
       };
     }
 

@@ -32,6 +32,8 @@ pub record Call : Type 0 where
   -- the lengths of the answer buffer and of the scratch
   pub buffer : ℕ
   pub scratch : ℕ
+  -- derive_cap: the most that the child's moneyword is (02, CR 1)
+  pub limit : ℕ
 
 -- `code` is 0 for a done call, or the refusal. `capability` is a new one; `length` and `moneyword` are cap_info's; `sum`
 -- is receive's; `bytes` go to the buffer's front. A field that a call does not use is 0, or no bytes.

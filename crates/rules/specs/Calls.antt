@@ -109,9 +109,10 @@ module _ (s : State) (c : Call) (me k : ℕ) where
     rights = both (s .cap k .rights) (c .rights);
   }
 
-  -- the child has the parent's moneyword
+  -- 02, CR 1: the child's moneyword is the smaller of the limit and the parent's moneyword
   unfoldable pub deriveCapDoes : Choice → Outcome
-  deriveCapDoes h = handsBack (s .object target .name) (c .drawn) (newCap s (h .cap) child (s .money k))
+  deriveCapDoes h =
+      handsBack (s .object target .name) (c .drawn) (newCap s (h .cap) child (min (c .limit) (s .money k)))
 
   -- ---- delete_cap: no more. The capability and all its descendants end.
 

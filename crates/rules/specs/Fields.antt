@@ -11,7 +11,7 @@ use Rattle.rules.specs.Rights.{deposit, suspend, resume, applyLock, send
 pub data Field : Type 0 where
   callNumber callerVolume callerSerial : Field
   capVolume capSerial capP1 capP2 : Field
-  volume size flag rights serial p1 p2 start end sum word1 word2 text : Field
+  volume size flag rights serial p1 p2 start end sum word1 word2 text limit : Field
 
 -- a call holds derive's mask where it holds make_obj's rights
 abbrev pub mask : Field
@@ -27,13 +27,13 @@ calling arguments = callNumber ∷ callerVolume ∷ callerSerial ∷ arguments
 unfoldable pub presenting : List Field → List Field
 presenting arguments = calling (capVolume ∷ capSerial ∷ capP1 ∷ capP2 ∷ arguments)
 
--- "then arguments"
+-- "then arguments"; 02, CR 1: derive_cap's limit stands "after the range's end"
 unfoldable pub fields : Op → List Field
 fields makeObj = calling (volume ∷ size ∷ flag ∷ rights ∷ serial ∷ p1 ∷ p2 ∷ [])
 fields read = presenting (start ∷ end ∷ [])
 fields write = presenting (start ∷ end ∷ text ∷ [])
 fields capInfo = presenting []
-fields deriveCap = presenting (mask ∷ start ∷ end ∷ p1 ∷ p2 ∷ [])
+fields deriveCap = presenting (mask ∷ start ∷ end ∷ limit ∷ p1 ∷ p2 ∷ [])
 fields deleteCap = presenting []
 fields renameObj = presenting (p1 ∷ p2 ∷ [])
 fields withdraw = presenting (sum ∷ [])
@@ -72,6 +72,7 @@ index sum = 16
 index word1 = 17
 index word2 = 18
 index text = 19
+index limit = 20
 
 -- the place of a field where the first of these has place k
 unfoldable pub placeFrom : ℕ → List Field → Field → ℕ

@@ -1,5 +1,5 @@
 -- 01, "The ledger of a run": fed each call's number, caller and arguments and whether it was done, nothing of the store.
-use Prim.Native.Nat.{ℕ, suc, _+_, _-_}
+use Prim.Native.Nat.{ℕ, suc, _+_, _-_, min}
 use mathlib.Core.Bool.{Bool, true, false, not, _&&_}
 use lib.Dec.{eqb}
 use lib.Bits.{bitXor}
@@ -119,8 +119,8 @@ module _ (l : Ledger) (c : Call) (k : ℕ) where
   entry read = l
   entry write = l
   entry capInfo = l
-  -- adds one from the line found, at what its rule makes of that line's balance: the balance itself
-  entry deriveCap = add l (newLine (l .line k .name) k (balance l k))
+  -- adds one from the line found, at what its rule makes of that line's balance: the smaller of the limit and it
+  entry deriveCap = add l (newLine (l .line k .name) k (min (c .limit) (balance l k)))
   -- ends the line found and all leading back to it
   entry deleteCap = endLines l (λ j. leadsBack l j k)
   -- ends the object's lines and adds one from none at the old master's balance

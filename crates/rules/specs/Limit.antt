@@ -60,6 +60,10 @@ top = 2147483648
 abbrev pub word : ℕ
 word = 4294967295
 
+-- 02, CR 1: the limit of a derive line that has none, which "behaves as before"
+abbrev pub defaultLimit : ℕ
+defaultLimit = word
+
 -- a byte, of write and of send, as a number of a line
 abbrev pub byte : ℕ
 byte = 255

@@ -1,10 +1,10 @@
 -- 01, "A script and its output", in numbers: a line as a call, the numbers that an answer writes, and a run to the `T`
 -- line. How the numbers stand in bytes is the script program's own.
-use Prim.Native.Nat.{ℕ}
+use Prim.Native.Nat.{ℕ, suc}
 use mathlib.Core.Bool.{Bool, true, false, not, _&&_}
 use mathlib.Core.List.{List, [], _∷_, _++_}
 use lib.Dec.{eqb, leb, ltb}
-use lib.ListN.{length, drop, getD}
+use lib.ListN.{length, take, drop, getD}
 use Rattle.rules.specs.Limit as Limit
 use Rattle.rules.specs.Code as Code
 use Rattle.rules.specs.Slots as Slots
@@ -28,7 +28,7 @@ use Rattle.rules.specs.Refusals.{caller}
 use Rattle.rules.specs.Calls.{emptied}
 use Rattle.rules.specs.Rule.{rule}
 use Rattle.rules.specs.Fields.{Field, callerVolume, callerSerial, capVolume, capSerial, capP1, capP2, volume, size, flag}
-use Rattle.rules.specs.Fields.{rights, serial, p1, p2, start, end, sum, word1, word2, text, fields, place}
+use Rattle.rules.specs.Fields.{rights, serial, p1, p2, start, end, sum, word1, word2, text, limit, fields, place}
 
 -- ---- a line: call number, caller's volume and serial, the capability (volume, serial, p1, p2) where one is presented,
 -- then arguments; `fields` says which
@@ -36,6 +36,17 @@ use Rattle.rules.specs.Fields.{rights, serial, p1, p2, start, end, sum, 
 -- the i-th number of a list, counted from 0
 abbrev pub nth : List ℕ → ℕ → ℕ
 nth l i = getD l i 0
+
+-- the line has a place for a limit, and one number less than its fields
+unfoldable pub lacksLimit : Op → List ℕ → Bool
+lacksLimit o l = not (eqb (place o limit) 0) && eqb (suc (length l)) (length (fields o))
+
+-- 02, CR 1: "A script line without the limit behaves as before": it is read with the default limit in its place
+unfoldable pub whole : Op → List ℕ → List ℕ
+whole o l = elim (lacksLimit o l) [
+  | true ↦ take (place o limit) l ++ Limit.defaultLimit ∷ drop (place o limit) l
+  | false ↦ l
+]
 
 -- bytes are 0 to 255
 unfoldable pub areBytes : List ℕ → Bool
@@ -45,7 +56,7 @@ areBytes l = not (any (λ b. ltb Limit.byte b) l)
 unfoldable pub lineFits : Op → List ℕ → Bool
 lineFits o [] = false
 lineFits o (n ∷ l) = elim (eqb (place o text) 0) [
-  | true ↦ eqb (length (n ∷ l)) (length (fields o))
+  | true ↦ eqb (length (whole o (n ∷ l))) (length (fields o))
   | false ↦ leb (place o text) (length (n ∷ l)) && areBytes (drop (place o text) (n ∷ l))
 ]
 
@@ -59,7 +70,7 @@ bytesAt l p = elim (eqb p 0) [ true ↦ [] | false ↦ drop p l ]
 
 -- what a line says in a field
 abbrev pub said : Op → List ℕ → Field → ℕ
-said o l f = numberAt l (place o f)
+said o l f = numberAt (whole o l) (place o f)
 
 -- the call that a line of fitting length says
 unfoldable pub callOf : Op → List ℕ → Call
@@ -81,6 +92,7 @@ callOf o l = record {
   text = bytesAt l (place o text);
   buffer = Limit.buffer;
   scratch = Limit.scratch;
+  limit = said o l limit;
 }
 
 -- ---- the numbers of an answer: 0 or the refusal, then results
@@ -208,6 +220,6 @@ example = record {
 -- a theorem that computes with the rules says `unfolding` and this name
 unfoldable pub computes : Unit {0}
 unfolding Slots.computes Store.computes Rights.computes Call.computes Password.computes Refusals.computes
-    Update.computes Changes.computes Calls.computes Rule.computes Fields.computes areBytes lineFits numberAt bytesAt callOf written
+    Update.computes Changes.computes Calls.computes Rule.computes Fields.computes lacksLimit whole areBytes lineFits numberAt bytesAt callOf written
     results answerOf freed lastFree lineRule totals play writes says example
 computes = tt

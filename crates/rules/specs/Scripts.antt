@@ -168,6 +168,69 @@ purses = record {
   totals = 999896 ∷ 40 ∷ 0 ∷ 64 ∷ [];
 }
 
+-- children under a limit, below, at and above the parent's moneyword; lines without one
+unfoldable pub limits : Example
+limits = record {
+  supply = 1000;
+  p1 = 5;
+  p2 = 9;
+  lines =
+      (1 ∷ 0 ∷ 1 ∷ 3 ∷ 16 ∷ 0 ∷ 8191 ∷ 9 ∷ 1 ∷ 2 ∷ [])
+      ∷ (9 ∷ 0 ∷ 1 ∷ 3 ∷ 9 ∷ 1 ∷ 2 ∷ 100 ∷ [])
+      ∷ (5 ∷ 0 ∷ 1 ∷ 3 ∷ 9 ∷ 1 ∷ 2 ∷ 8191 ∷ 0 ∷ 16 ∷ 40 ∷ 3 ∷ 4 ∷ [])
+      ∷ (5 ∷ 0 ∷ 1 ∷ 3 ∷ 9 ∷ 1 ∷ 2 ∷ 8191 ∷ 0 ∷ 16 ∷ 101 ∷ 5 ∷ 6 ∷ [])
+      ∷ (5 ∷ 0 ∷ 1 ∷ 3 ∷ 9 ∷ 1 ∷ 2 ∷ 8191 ∷ 0 ∷ 16 ∷ 7 ∷ 8 ∷ [])
+      ∷ (5 ∷ 0 ∷ 1 ∷ 3 ∷ 9 ∷ 3 ∷ 4 ∷ 8191 ∷ 0 ∷ 16 ∷ 4294967295 ∷ 9 ∷ 10 ∷ [])
+      ∷ (5 ∷ 0 ∷ 1 ∷ 3 ∷ 9 ∷ 3 ∷ 4 ∷ 8191 ∷ 0 ∷ 16 ∷ 0 ∷ 11 ∷ 12 ∷ [])
+      ∷ (4 ∷ 0 ∷ 1 ∷ 3 ∷ 9 ∷ 1 ∷ 2 ∷ [])
+      ∷ (4 ∷ 0 ∷ 1 ∷ 3 ∷ 9 ∷ 3 ∷ 4 ∷ [])
+      ∷ (4 ∷ 0 ∷ 1 ∷ 3 ∷ 9 ∷ 5 ∷ 6 ∷ [])
+      ∷ (4 ∷ 0 ∷ 1 ∷ 3 ∷ 9 ∷ 7 ∷ 8 ∷ [])
+      ∷ (4 ∷ 0 ∷ 1 ∷ 3 ∷ 9 ∷ 9 ∷ 10 ∷ [])
+      ∷ (4 ∷ 0 ∷ 1 ∷ 3 ∷ 9 ∷ 11 ∷ 12 ∷ [])
+      ∷ (8 ∷ 0 ∷ 1 ∷ 3 ∷ 9 ∷ 11 ∷ 12 ∷ 1 ∷ [])
+      ∷ (8 ∷ 0 ∷ 1 ∷ 3 ∷ 9 ∷ 3 ∷ 4 ∷ 30 ∷ [])
+      ∷ (8 ∷ 0 ∷ 1 ∷ 3 ∷ 9 ∷ 9 ∷ 10 ∷ 11 ∷ [])
+      ∷ (8 ∷ 0 ∷ 1 ∷ 3 ∷ 9 ∷ 9 ∷ 10 ∷ 10 ∷ [])
+      ∷ (8 ∷ 0 ∷ 1 ∷ 3 ∷ 9 ∷ 5 ∷ 6 ∷ 60 ∷ [])
+      ∷ (4 ∷ 0 ∷ 1 ∷ 3 ∷ 9 ∷ 1 ∷ 2 ∷ [])
+      ∷ (4 ∷ 0 ∷ 1 ∷ 3 ∷ 9 ∷ 3 ∷ 4 ∷ [])
+      ∷ (4 ∷ 0 ∷ 1 ∷ 3 ∷ 9 ∷ 9 ∷ 10 ∷ [])
+      ∷ (9 ∷ 0 ∷ 1 ∷ 3 ∷ 9 ∷ 11 ∷ 12 ∷ 5 ∷ [])
+      ∷ (4 ∷ 0 ∷ 1 ∷ 3 ∷ 9 ∷ 3 ∷ 4 ∷ [])
+      ∷ (5 ∷ 0 ∷ 1 ∷ 3 ∷ 9 ∷ 1 ∷ 2 ∷ 8191 ∷ 0 ∷ 16 ∷ 1 ∷ [])
+      ∷ (5 ∷ 0 ∷ 1 ∷ 3 ∷ 9 ∷ 1 ∷ 2 ∷ 8191 ∷ 0 ∷ 16 ∷ 1 ∷ 13 ∷ 14 ∷ 0 ∷ [])
+      ∷ [];
+  answers =
+      (0 ∷ 3 ∷ 9 ∷ 1 ∷ 2 ∷ [])
+      ∷ (0 ∷ [])
+      ∷ (0 ∷ 3 ∷ 9 ∷ 3 ∷ 4 ∷ [])
+      ∷ (0 ∷ 3 ∷ 9 ∷ 5 ∷ 6 ∷ [])
+      ∷ (0 ∷ 3 ∷ 9 ∷ 7 ∷ 8 ∷ [])
+      ∷ (0 ∷ 3 ∷ 9 ∷ 9 ∷ 10 ∷ [])
+      ∷ (0 ∷ 3 ∷ 9 ∷ 11 ∷ 12 ∷ [])
+      ∷ (0 ∷ 16 ∷ 100 ∷ [])
+      ∷ (0 ∷ 16 ∷ 40 ∷ [])
+      ∷ (0 ∷ 16 ∷ 100 ∷ [])
+      ∷ (0 ∷ 16 ∷ 100 ∷ [])
+      ∷ (0 ∷ 16 ∷ 40 ∷ [])
+      ∷ (0 ∷ 16 ∷ 0 ∷ [])
+      ∷ (9 ∷ [])
+      ∷ (0 ∷ [])
+      ∷ (9 ∷ [])
+      ∷ (0 ∷ [])
+      ∷ (0 ∷ [])
+      ∷ (0 ∷ 16 ∷ 0 ∷ [])
+      ∷ (0 ∷ 16 ∷ 0 ∷ [])
+      ∷ (0 ∷ 16 ∷ 30 ∷ [])
+      ∷ (0 ∷ [])
+      ∷ (0 ∷ 16 ∷ 5 ∷ [])
+      ∷ (2 ∷ [])
+      ∷ (2 ∷ [])
+      ∷ [];
+  totals = 926 ∷ 5 ∷ 0 ∷ 69 ∷ [];
+}
+
 -- a deposit that a moneyword below the master cannot hold; the largest that it can
 unfoldable pub overflow : Example
 overflow = record {
@@ -685,10 +748,9 @@ arguments = record {
 }
 
 unfoldable pub scripts : List Example
-scripts = siblings ∷ windows ∷ purses ∷ overflow ∷ locks ∷ reuse ∷ itself ∷ ending ∷ mail ∷ poverty ∷ revival ∷ renaming ∷ rights ∷ blocks ∷ arguments ∷ []
+scripts = siblings ∷ windows ∷ purses ∷ limits ∷ overflow ∷ locks ∷ reuse ∷ itself ∷ ending ∷ mail ∷ poverty ∷ revival ∷ renaming ∷ rights ∷ blocks ∷ arguments ∷ []
 
 -- what a theorem that computes with these tables unfolds
 unfoldable pub computes : Unit {0}
-unfolding siblings windows purses overflow locks reuse itself ending mail poverty revival renaming rights
-    blocks arguments scripts
+unfolding siblings windows purses limits overflow locks reuse itself ending mail poverty revival renaming rights blocks arguments scripts
 computes = tt

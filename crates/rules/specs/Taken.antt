@@ -37,6 +37,7 @@ makes = record {
   text = [];
   buffer = Limit.buffer;
   scratch = Limit.scratch;
+  limit = 0;
 }
 
 unfoldable pub low : Choice

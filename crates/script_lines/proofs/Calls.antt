@@ -1,5 +1,5 @@
 -- A line as a call, field by field.
-use Prim.Native.Nat.{ℕ}
+use Prim.Native.Nat.{ℕ, _-_}
 use mathlib.Core.Path.{_≡_, refl, sym, ap, _∙_}
 use mathlib.Core.Bool.{Bool, true, false, _&&_}
 use mathlib.Core.Logic.{_≢_}
@@ -9,10 +9,13 @@ use lib.Dec.{eqb, leb}
 use lib.ListN.{length, drop}
 use borrow.Author.Tests.{eq-eqb, ne-eqb}
 use Rattle.rules.specs.Rights.{Op}
-use Rattle.rules.specs.Fields.{text, fields, place}
-use Rattle.rules.specs.Script.{nth, areBytes, lineFits, numberAt, bytesAt, callOf}
+use Rattle.rules.specs.Limit as Limit
+use Rattle.rules.specs.Fields.{text, limit, fields, place}
+use Rattle.rules.specs.Script.{nth, lacksLimit, areBytes, lineFits, numberAt, bytesAt, callOf}
 use Rattle.rules.proofs.Tests.{pick-yes, pick-not}
 use Rattle.script_lines.specs.Lists.{Front}
+use Rattle.script_lines.specs.Lacking.{numberAfter, limitIn}
+use Rattle.script_lines.proofs.Lacking.{inserted-long, lacks-long, whole-lacking, whole-had}
 
 -- ---- the number in a field
 
@@ -25,19 +28,53 @@ pub present : (l : List ℕ) (p k v : ℕ) → k ≡ p → v ≡ nth l k → p �
 unfolding numberAt
 present l p k v e h n = h ∙ ap (λ (i : ℕ). nth l i) e ∙ sym (pick-not (eqb p 0) _ _ (ne-eqb p 0 n))
 
--- ---- a line that fits: a is the place of its bytes
+-- ---- a field after the limit, and the limit; b says that the line lacks it
+
+pub after-absent : (b : Bool) (l : List ℕ) (p : ℕ) → p ≡ 0 → 0 ≡ numberAfter b l p
+unfolding numberAfter
+after-absent true l p z = absent l (p - 1) (omega (arith, z))
+after-absent false l p z = absent l p z
+
+pub after-lacking : (b : Bool) (l : List ℕ) (p v : ℕ) → b ≡ true → v ≡ numberAt l (p - 1) → v ≡ numberAfter b l p
+unfolding numberAfter
+after-lacking b l p v e h = h ∙ ap (λ x. numberAfter x l p) (sym e)
+
+pub after-had : (b : Bool) (l : List ℕ) (p v : ℕ) → b ≡ false → v ≡ numberAt l p → v ≡ numberAfter b l p
+unfolding numberAfter
+after-had b l p v e h = h ∙ ap (λ x. numberAfter x l p) (sym e)
+
+pub limit-lacking : (b : Bool) (l : List ℕ) (p : ℕ) → b ≡ true → Limit.defaultLimit ≡ limitIn b l p
+unfolding limitIn
+limit-lacking b l p e = ap (λ x. limitIn x l p) (sym e)
+
+pub limit-had : (b : Bool) (l : List ℕ) (p v : ℕ) → b ≡ false → v ≡ numberAt l p → v ≡ limitIn b l p
+unfolding limitIn
+limit-had b l p v e h = h ∙ ap (λ x. limitIn x l p) (sym e)
+
+-- ---- a line that fits: a is the place of its bytes, and b how many fields it has
 
 pub fits-none : (o : Op) (l : List ℕ) → length l ≡ 0 → lineFits o l ≡ false
 unfolding lineFits
 fits-none o [] e = refl
 fits-none o (n ∷ l) e = absurd (omega arith)
 
-pub fits-exactly : (o : Op) (l : List ℕ) (a b : ℕ) → length l ≢ 0 → a ≡ place o text → a ≡ 0 → b ≡ length (fields o)
-    → eqb (length l) b ≡ lineFits o l
+pub fits-exactly : (o : Op) (l : List ℕ) (a b : ℕ) → length l ≢ 0 → a ≡ place o text → a ≡ 0 → lacksLimit o l ≡ false
+    → b ≡ length (fields o) → eqb (length l) b ≡ lineFits o l
 unfolding lineFits
-fits-exactly o [] a b h e z f = absurd (h refl)
-fits-exactly o (n ∷ l) a b h e z f =
+fits-exactly o [] a b h e z lacks f = absurd (h refl)
+fits-exactly o (n ∷ l) a b h e z lacks f =
     ap (eqb (length (n ∷ l))) f
+    ∙ ap (λ m. eqb (length m) (length (fields o))) (sym (whole-had o (n ∷ l) lacks))
+    ∙ sym (pick-yes (eqb (place o text) 0) _ _ (eq-eqb (place o text) 0 (sym e ∙ z)))
+
+pub fits-lacking : (o : Op) (l : List ℕ) (a : ℕ) → length l ≢ 0 → a ≡ place o text → a ≡ 0 → lacksLimit o l ≡ true
+    → true ≡ lineFits o l
+unfolding lineFits
+fits-lacking o [] a h e z lacks = absurd (h refl)
+fits-lacking o (n ∷ l) a h e z lacks =
+    sym (eq-eqb _ (length (fields o))
+    (ap length (whole-lacking o (n ∷ l) lacks) ∙ inserted-long (n ∷ l) (place o limit) Limit.defaultLimit
+    ∙ lacks-long o (n ∷ l) lacks))
     ∙ sym (pick-yes (eqb (place o text) 0) _ _ (eq-eqb (place o text) 0 (sym e ∙ z)))
 
 -- numbers before the bytes

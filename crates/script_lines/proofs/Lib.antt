@@ -1,5 +1,7 @@
 -- the table
 pub mod Rows
+-- a line that may lack its limit
+pub mod Lacking
 -- a line as a call
 pub mod Calls
 -- numbers that are bytes

@@ -24,11 +24,6 @@ place-in f k n e = place-at f k ∙ ap (λ (o : Op). place o f) e
 pub length-in : (k n : ℕ) → op k ≡ op n → getD lengths k 0 ≡ length (fields (op n))
 length-in k n e = length-at k ∙ ap (λ (o : Op). length (fields o)) e
 
--- what the line says in a field
-pub said-in : (f : Field) (l : List ℕ) (k n v : ℕ) → op k ≡ op n → v ≡ numberAt l (getD (places f) k 0)
-    → v ≡ numberAt l (place (op n) f)
-said-in f l k n v e h = h ∙ ap (numberAt l) (place-in f k n e)
-
 -- no call has a number above 16
 pub past : (n : ℕ) → 16 < n → op n ≡ unknown
 unfolding op calls

@@ -1,3 +1,4 @@
 pub mod Table
 pub mod Lists
 pub mod First
+pub mod Lacking

@@ -5,6 +5,8 @@ ghost use Rattle.rules.specs.Rights.{op};
 ghost use Rattle.rules.specs.Script.{nth, numberAt};
 ghost use Rattle.rules.specs.Script.{callOf as Script·callOf};
 ghost use Rattle.call_steps.specs.Request.{callOf};
+ghost use Rattle.script_lines.specs.Lacking.{numberAfter, limitIn};
+use crate::fits::lacks_limit;
 use crate::fits::nth;
 use crate::table;
 use crate::table::column;
@@ -12,6 +14,7 @@ use crate::table::wide;
 use call_steps::request::Capability;
 use call_steps::request::Name;
 use call_steps::request::Request;
+use values::limit::DEFAULT_LIMIT;
 use values::window::Window;
 
 // The number at a field's place.
@@ -24,7 +27,30 @@ fn number_at(numbers: &[u32], place: u8) -> u32
     nth(numbers, wide(place))
 }
 
-// The request that a line says; the bytes of write and send are in `text_of`.
+// The number at the place of a field that stands after the limit: one less where the line lacks it.
+fn after_limit(numbers: &[u32], place: u8, lacks: bool) -> u32
+    ensures { λ r. ⌜ r ≡ numberAfter lacks (now (numbers .entry)) place ⌝ }
+{
+    if place == 0 {
+        return 0;
+    }
+    if lacks {
+        return number_at(numbers, place - 1);
+    }
+    number_at(numbers, place)
+}
+
+// The limit at its place, or the default one.
+fn limit_at(numbers: &[u32], place: u8, lacks: bool) -> u32
+    ensures { λ r. ⌜ r ≡ limitIn lacks (now (numbers .entry)) place ⌝ }
+{
+    if lacks {
+        return DEFAULT_LIMIT;
+    }
+    number_at(numbers, place)
+}
+
+// The request that a line says; the bytes of write and send are `text_of`.
 pub fn request_of(numbers: &[u32]) -> Request
     ensures { λ r. ⌜ callOf r (Script·callOf (op (nth (now (numbers .entry)) 0)) (now (numbers .entry)) .text)
         Limit.buffer Limit.scratch
@@ -32,6 +58,7 @@ pub fn request_of(numbers: &[u32]) -> Request
 {
     let number = nth(numbers, 0);
     let call = column(number);
+    let lacks = lacks_limit(numbers, call);
     Request {
         number,
         caller: Name {
@@ -56,8 +83,8 @@ pub fn request_of(numbers: &[u32]) -> Request
         flag: number_at(numbers, table::FLAG[call]),
         rights: number_at(numbers, table::RIGHTS[call]),
         drawn: [
-            number_at(numbers, table::P1[call]),
-            number_at(numbers, table::P2[call]),
+            after_limit(numbers, table::P1[call], lacks),
+            after_limit(numbers, table::P2[call], lacks),
         ],
         range: Window {
             start: number_at(numbers, table::START[call]),
@@ -68,5 +95,6 @@ pub fn request_of(numbers: &[u32]) -> Request
             number_at(numbers, table::WORD1[call]),
             number_at(numbers, table::WORD2[call]),
         ],
+        limit: limit_at(numbers, table::LIMIT[call], lacks),
     }
 }

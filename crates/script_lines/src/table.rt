@@ -27,9 +27,9 @@ pub(crate) const RIGHTS: [u8; 17] = [0, 6, 0, 0, 0, 7, 0, 0, 0, 0, 0, 0, 0, 0, 0
 
 pub(crate) const SERIAL: [u8; 17] = [0, 7, 0, 0, 0, 0, 0, 0, 0, 0, 0, 0, 0, 0, 0, 0, 0];
 
-pub(crate) const P1: [u8; 17] = [0, 8, 0, 0, 0, 10, 0, 7, 0, 0, 0, 0, 0, 0, 0, 0, 0];
+pub(crate) const P1: [u8; 17] = [0, 8, 0, 0, 0, 11, 0, 7, 0, 0, 0, 0, 0, 0, 0, 0, 0];
 
-pub(crate) const P2: [u8; 17] = [0, 9, 0, 0, 0, 11, 0, 8, 0, 0, 0, 0, 0, 0, 0, 0, 0];
+pub(crate) const P2: [u8; 17] = [0, 9, 0, 0, 0, 12, 0, 8, 0, 0, 0, 0, 0, 0, 0, 0, 0];
 
 pub(crate) const START: [u8; 17] = [0, 0, 7, 7, 0, 8, 0, 0, 0, 0, 0, 0, 0, 0, 0, 0, 0];
 
@@ -43,8 +43,10 @@ pub(crate) const WORD2: [u8; 17] = [0, 0, 0, 0, 0, 0, 0, 0, 0, 0, 0, 0, 8, 0, 0,
 
 pub(crate) const TEXT: [u8; 17] = [0, 0, 0, 9, 0, 0, 0, 0, 0, 0, 0, 0, 0, 8, 0, 0, 0];
 
+pub(crate) const LIMIT: [u8; 17] = [0, 0, 0, 0, 0, 10, 0, 0, 0, 0, 0, 0, 0, 0, 0, 0, 0];
+
 // How many fields the line has, the text counted as one.
-pub(crate) const LENGTH: [u8; 17] = [0, 10, 9, 10, 7, 12, 7, 9, 8, 8, 7, 7, 9, 9, 3, 3, 8];
+pub(crate) const LENGTH: [u8; 17] = [0, 10, 9, 10, 7, 13, 7, 9, 8, 8, 7, 7, 9, 9, 3, 3, 8];
 
 // The column of a call number.
 pub(crate) fn column(number: u32) -> usize

@@ -65,6 +65,7 @@ requestOf c = record {
   range = record { start = c .range .start; end = c .range .end };
   sum = c .sum;
   lock = c .lock .first ∷ c .lock .second ∷ [];
+  limit = c .limit;
 }
 
 same-call : (c : Call) (buffer scratch : ℕ) → buffer ≡ c .buffer → scratch ≡ c .scratch

@@ -46,5 +46,8 @@ pub const TOP: u32 = 2147483648;
 // the largest 32-bit number: "the money total is at most 4,294,967,295"
 pub const MAX_WORD: u32 = 4294967295;
 
+// 02, CR 1: the limit of a derive line that has none, which "behaves as before"
+pub const DEFAULT_LIMIT: u32 = MAX_WORD;
+
 // a byte, of write and of send, as a number of a line
 pub const MAX_BYTE: u32 = 255;

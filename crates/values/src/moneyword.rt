@@ -1,6 +1,6 @@
 // A moneyword is a purse or a withdrawal limit. Nothing here turns it into cash.
 ghost use mathlib.Core.Path.{_≡_};
-ghost use Prim.Native.Nat.{_+_, _-_};
+ghost use Prim.Native.Nat.{_+_, _-_, min};
 ghost use lib.Dec.{ltb};
 ghost use Rattle.rules.specs.Limit;
 use crate::limit::MAX_WORD;
@@ -31,5 +31,16 @@ impl Moneyword {
         ensures { λ r. ⌜ r ≡ ltb Limit.word (self .0 + sum) ⌝ }
     {
         MAX_WORD - self.0 < sum
+    }
+
+    // The smaller of the limit and it.
+    pub fn at_most(self, limit: u32) -> Moneyword
+        ensures { λ r. ⌜ r .0 ≡ min limit (self .0) ⌝ }
+    {
+        if limit < self.0 {
+            Moneyword(limit)
+        } else {
+            self
+        }
     }
 }

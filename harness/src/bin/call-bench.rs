@@ -5,7 +5,7 @@ use harness::kernel::FormedStore;
 use harness::request::Request;
 use reference::call::{Action, Call, Key, Name, Operation};
 use reference::kernel::{Object, Store};
-use reference::numbers::{DONE, MAX_RIGHTS, MIN_BUFFER, MIN_SCRATCH};
+use reference::numbers::{DONE, MAX_RIGHTS, MAX_WORD, MIN_BUFFER, MIN_SCRATCH};
 use std::time::Instant;
 use trials::encode::encode;
 use trials::random::Random;
@@ -159,7 +159,8 @@ fn prepared(title: &str, objects: u32, tree: u32, cases: &mut Vec<Case>) {
     cases.push(case(format!("{title}: revive"), &ended, revives.collect()));
     let derives = names.iter().enumerate().map(|(at, name)| {
         let (p1, p2) = (at as u32, 5);
-        let derive = Action::DeriveCap { mask: MAX_RIGHTS, start: 3, end: 400, p1, p2 };
+        let (mask, limit) = (MAX_RIGHTS, MAX_WORD);
+        let derive = Action::DeriveCap { mask, start: 3, end: 400, limit, p1, p2 };
         call(*name, on(keys(&base, *name)[0], derive))
     });
     cases.push(case(format!("{title}: derive"), &base, derives.collect()));

@@ -6,7 +6,7 @@ use harness::request::Request;
 use harness::stack::depth;
 use reference::call::{Action, Call, Key, Name, Operation};
 use reference::kernel::{Capability, Message, Object, Store};
-use reference::numbers::{DONE, MAX_RIGHTS, MAX_SIZE, MIN_BUFFER, MIN_SCRATCH};
+use reference::numbers::{DONE, MAX_RIGHTS, MAX_SIZE, MAX_WORD, MIN_BUFFER, MIN_SCRATCH};
 use trials::encode::encode;
 use trials::random::Random;
 use trials::raw::RawStore;
@@ -71,7 +71,8 @@ fn on_chain(store: &Store) -> Vec<Operation> {
 fn beside_chain(store: &Store) -> Vec<Operation> {
     let (_, lowest) = ends(store);
     let drawn = Key { name: Name { volume: 3, serial: 9 }, p1: 1, p2: 2 };
-    let derive = Action::DeriveCap { mask: MAX_RIGHTS, start: 0, end: MAX_SIZE, p1: 1, p2: 2 };
+    let (mask, start, end, limit) = (MAX_RIGHTS, 0, MAX_SIZE, MAX_WORD);
+    let derive = Action::DeriveCap { mask, start, end, limit, p1: 1, p2: 2 };
     vec![
         Operation::MakeObj { size: MAX_SIZE, flag: 1, rights: MAX_RIGHTS, drawn },
         Operation::On(lowest, derive),

@@ -51,8 +51,8 @@ fn make(drawn: Key, size: u32, flag: u32) -> Request {
 }
 
 fn derive(from: Key, Key { p1, p2, .. }: Key) -> Request {
-    let (mask, start, end) = (MAX_RIGHTS, 0, u32::MAX);
-    on(from, Action::DeriveCap { mask, start, end, p1, p2 })
+    let (mask, start, end, limit) = (MAX_RIGHTS, 0, u32::MAX, u32::MAX);
+    on(from, Action::DeriveCap { mask, start, end, limit, p1, p2 })
 }
 
 /// A password that no lock touches.

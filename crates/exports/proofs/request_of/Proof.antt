@@ -62,6 +62,9 @@ shared-slice-read-t44 c = search needs
 shared-slice-read-t46 : tie.Need-shared-slice-read-t46
 shared-slice-read-t46 c = search needs
 
+shared-slice-read-t49 : tie.Need-shared-slice-read-t49
+shared-slice-read-t49 c = search needs
+
 returns : tie.Need-returns
 unfolding requestOf
 returns c = refl
@@ -89,4 +92,5 @@ request-of-spec =
     shared-slice-read-t42
     shared-slice-read-t44
     shared-slice-read-t46
+    shared-slice-read-t49
     returns)

@@ -20,6 +20,9 @@ mul-amount c = search needs
 slice-read-amount : tie.Need-slice-read-amount
 slice-read-amount c = search needs
 
+at-most-requires : tie.Need-at-most-requires
+at-most-requires c κs = search needs
+
 new-cap-requires : tie.Need-new-cap-requires
 new-cap-requires c κs = search needs
 
@@ -53,10 +56,12 @@ same-length-2 c = search needs
 returns : tie.Need-returns
 returns c =
     let n = c .before .before .before .before in
-    let s = n .before .before .before .before .before .before .before in
+    let m = n .before .before .before in
+    let q = m .before .before in
+    let s = q .before .before .before in
     let a = s .args in
-    added (a .links .now) (a .words .now) (a .k) (capOf (a .x)) (a .x .next) _ (n .new-cap .result)
-    (c .before .before .before .before .before .before .before .before .slot .result) _ _ (s .pre .slot) (n .new-cap .ensures) (c .before .before .before .before .before .before .before .before .slot .ensures) refl
+    added (a .links .now) (a .words .now) (a .k) (capOf (a .x)) (a .x .next) (a .limit) _ (n .new-cap .result) (q .slot .result)
+    _ _ (s .pre .slot) (n .new-cap .ensures) (q .slot .ensures) (m .at-most .ensures)
 
 pub add-child-spec : {M : Type 1} → statement M
 add-child-spec =
@@ -66,6 +71,7 @@ add-child-spec =
     add-amount
     mul-amount
     slice-read-amount
+    at-most-requires
     new-cap-requires
     cast-link
     add-links
