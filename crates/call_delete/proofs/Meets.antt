@@ -1,12 +1,12 @@
 -- The run of delete_cap is what the rules give of its own part: 01, "delete_cap: no more. The capability and all its
 -- descendants end. With a master the object ends too; its moneyword, cash and box sums go to the house."
 use Prim.Native.Nat.{ℕ, _+_}
-use mathlib.Core.Path.{_≡_, refl, sym, ap, _∙_, fun-ext, subst}
+use mathlib.Core.Path.{_≡_, refl, sym, ap, _∙_, fun-ext}
 use mathlib.Core.Logic.{_≢_}
 use mathlib.Core.Bool.{Bool, true, false, _&&_, _||_}
 use mathlib.Core.List.{List}
 use lib.Dec.{eqb}
-use borrow.Author.Tests.{eq-eqb, ne-eqb}
+use borrow.Author.Tests.{eqb-true, eqb-false, eq-eqb, ne-eqb}
 use Rattle.rules.specs.Store.{Cap, State, noCap, descends, sumsIn}
 use Rattle.rules.specs.Rights.{deleteCap, op}
 use Rattle.rules.specs.Call.{Call, done}
@@ -14,7 +14,7 @@ use Rattle.rules.specs.Refusals.{first}
 use Rattle.rules.specs.Update.{withCap, withMoney}
 use Rattle.rules.specs.Changes.{toHouse, endWhere, endObject}
 use Rattle.rules.specs.Calls.{refuses, does, deleted, forfeit}
-use Rattle.rules.proofs.Tests.{by-eq, pick-yes, pick-not}
+use Rattle.rules.proofs.Tests.{by-eq, pick-by}
 use Rattle.rules.proofs.Forest.{descends-self}
 use Rattle.rules.proofs.Deleting.{delete-by}
 use Rattle.layout.specs.Rows.{ownerOf, parentOf}
@@ -138,11 +138,9 @@ module _ {b l w : List ℕ} (W : WellFormed b l w) where
 
     run-does : Does s c me k deleteCap (deleteRun b l w k)
     unfolding deleteRun
-    run-does = by-eq (parentOf l k) 0
-        (λ z. subst (Does s c me k deleteCap) (sym (pick-yes (eqb (parentOf l k) 0) _ _ (eq-eqb _ 0 z)))
-        (master-does z))
-        (λ nz. subst (Does s c me k deleteCap) (sym (pick-not (eqb (parentOf l k) 0) _ _ (ne-eqb _ 0 nz)))
-        (child-does nz))
+    run-does = pick-by (Does s c me k deleteCap) (eqb (parentOf l k) 0) _ _
+        (λ e. master-does (eqb-true _ _ e))
+        (λ e. child-does (eqb-false _ _ e))
 
     pub delete-meets : op (c .number) ≡ deleteCap → Meets s c me k deleteCap (deleteRun b l w k)
     unfolding takes refuses first

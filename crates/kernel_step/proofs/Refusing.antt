@@ -14,7 +14,7 @@ use Rattle.rules.specs.Call.{Call, Choice, code, handsBack, handsOver, tells}
 use Rattle.rules.specs.Code as Code
 use Rattle.rules.specs.Refusals.{first, caller, early, presenting}
 use Rattle.rules.specs.Rule.{paid, rule, isDone}
-use Rattle.rules.proofs.Tests.{by-bool, by-eq, pick-yes, pick-not}
+use Rattle.rules.proofs.Tests.{by-eq, pick-by}
 use Rattle.rules.proofs.Ready.{early-low, late-high, slotOf}
 use Rattle.rules.proofs.Answers.{is-done}
 use Rattle.rules.proofs.Outcomes.{rule-by}
@@ -64,9 +64,8 @@ module _ (b l w : List ℕ) where
   own-leaves c me k write = settled-leaves _ _ refl
   own-leaves c me k capInfo = λ nz. absurd (nz refl)
   own-leaves c me k deriveCap = settled-leaves _ _ refl
-  own-leaves c me k deleteCap = by-bool (eqb (parentOf l k) 0)
-      (λ e. subst (Refusing b l w) (sym (pick-yes (eqb (parentOf l k) 0) _ _ e)) (λ nz. absurd (nz refl)))
-      (λ e. subst (Refusing b l w) (sym (pick-not (eqb (parentOf l k) 0) _ _ e)) (λ nz. absurd (nz refl)))
+  own-leaves c me k deleteCap =
+      pick-by (Refusing b l w) (eqb (parentOf l k) 0) _ _ (λ _ nz. absurd (nz refl)) (λ _ nz. absurd (nz refl))
   own-leaves c me k renameObj = settled-leaves _ _ refl
   own-leaves c me k withdraw = settled-leaves _ _ refl
   own-leaves c me k deposit = settled-leaves _ _ refl

@@ -18,7 +18,7 @@ use Rattle.rules.specs.Calls.{readDoes, writeDoes, capInfoDoes, deriveCapDoes, 
 use Rattle.rules.specs.Calls.{withdrawDoes, depositDoes, suspendDoes, resumeDoes, applyLockDoes, sendDoes, receiveDoes}
 use Rattle.rules.specs.Calls.{waitDoes, reviveDoes, does}
 use Rattle.rules.specs.Rule.{stopped, paid, rule}
-use Rattle.rules.proofs.Tests.{by-bool, pick-yes, pick-not}
+use Rattle.rules.proofs.Tests.{pick-by}
 use Rattle.rules.proofs.Slots.{at-by}
 use Rattle.rules.proofs.Ready.{slotOf}
 use Rattle.rules.proofs.Outcomes.{rule-by}
@@ -85,10 +85,7 @@ module _ (s : State) (c : Call) (me k : ℕ) (h : Choice) (q : ℕ) (z : s .obje
 stopped-same : (s : State) (c : Call) (n : ℕ) → stopped s c n .object ≡ s .object
 unfolding stopped setTerminated withMarks
 stopped-same s c n =
-    let x : State = setTerminated s (caller s c) true in
-    by-bool (eqb n Code.cannotPay)
-    (λ e. ap (λ (t : State). t .object) (pick-yes (eqb n Code.cannotPay) x s e))
-    (λ e. ap (λ (t : State). t .object) (pick-not (eqb n Code.cannotPay) x s e))
+    pick-by (λ (t : State). t .object ≡ s .object) (eqb n Code.cannotPay) _ s (λ _. refl) (λ _. refl)
 
 rule-new : (s : State) (c : Call) (h : Choice) (q : ℕ) → s .object q .live ≡ false
     → rule s c h .after .object q .live ≡ true → op (c .number) ≡ makeObj

@@ -23,7 +23,7 @@ use Rattle.rules.specs.Calls.{deleted, emptied, renameObjDoes, withdrawD
 use Rattle.rules.specs.Calls.{applyLockDoes, sendDoes, receiveDoes, waitDoes, reviveDoes, does}
 use Rattle.rules.specs.Rule.{stopped, paid, late, rule, isDone}
 use Rattle.rules.specs.Demand.{FreeObject, Open}
-use Rattle.rules.proofs.Tests.{by-bool, by-eq, pick-yes, pick-not}
+use Rattle.rules.proofs.Tests.{by-eq, pick-by}
 use Rattle.rules.proofs.Slots.{at-here, at-else}
 use Rattle.rules.proofs.Ready.{slotOf}
 use Rattle.rules.proofs.Outcomes.{done-out, rule-by}
@@ -156,13 +156,9 @@ module _ (s : State) (c : Call) (q : ℕ) where
 
   stopped-bytes : Bytes s q (s .bytes q) (stopped s c (early s c))
   unfolding stopped setTerminated withMarks
-  stopped-bytes =
-      let x : State = setTerminated s (caller s c) true in
-      by-bool (eqb (early s c) Code.cannotPay)
-      (λ e. subst (Bytes s q (s .bytes q)) (sym (pick-yes (eqb (early s c) Code.cannotPay) x s e))
-      (same s q x refl refl))
-      (λ e. subst (Bytes s q (s .bytes q)) (sym (pick-not (eqb (early s c) Code.cannotPay) x s e))
-      (same s q s refl refl))
+  stopped-bytes = pick-by (Bytes s q (s .bytes q)) (eqb (early s c) Code.cannotPay) _ s
+      (λ _. same s q _ refl refl)
+      (λ _. same s q s refl refl)
 
   paid-bytes : Bytes s q (s .bytes q) (paid s c)
   unfolding paid toHouse spend withCash withHouse

@@ -3,7 +3,7 @@
 use Prim.Native.Nat.{ℕ}
 use mathlib.Core.Path.{_≡_, refl, sym, ap, _∙_, subst}
 use mathlib.Core.Logic.{_≢_}
-use mathlib.Core.Bool.{Bool, true, true≢false, false≢true}
+use mathlib.Core.Bool.{true, true≢false, false≢true}
 use native.Mathlib.Omega.{arith}
 use lib.Dec.{eqb}
 use borrow.Author.Tests.{eqb-true, eqb-false}
@@ -16,7 +16,7 @@ use Rattle.rules.specs.Update.{withHouse, withCap, withMoney}
 use Rattle.rules.specs.Changes.{toHouse, endWhere, newObject, endObject}
 use Rattle.rules.specs.Calls.{deleted, forfeit, deleteCapDoes}
 use Rattle.rules.specs.Ledger.{Ledger, leadsBack, entry}
-use Rattle.rules.proofs.Tests.{by-bool, refuted, pick-yes, pick-not}
+use Rattle.rules.proofs.Tests.{refuted, pick-by}
 use Rattle.rules.proofs.Slots.{at-by}
 use Rattle.rules.proofs.Forest.{descends-self, descends-child, descends-top, master-above, master-unique}
 use Rattle.rules.proofs.Sound.{HasMaster, Mastered, Sound, sound-of, formed-of, object-some, sound-house, Kept}
@@ -32,12 +32,7 @@ pub delete-by : (s : State) (c : Call) (me k : ℕ) (P : Outcome → Type 0)
     → P (deleteCapDoes s c me k)
 unfolding deleteCapDoes
 delete-by s c me k P a b =
-    let t : Bool = eqb (s .cap k .parent) 0 in
-    let x : Outcome = done (toHouse (endObject (deleted s c me k) (s .cap k .object)) (forfeit s c me k)) in
-    let y : Outcome = done (deleted s c me k) in
-    by-bool t
-    (λ e. subst P (sym (pick-yes t x y e)) (a (eqb-true _ _ e)))
-    (λ e. subst P (sym (pick-not t x y e)) (b (eqb-false _ _ e)))
+    pick-by P (eqb (s .cap k .parent) 0) _ _ (λ e. a (eqb-true _ _ e)) (λ e. b (eqb-false _ _ e))
 
 module _ (s : State) (G : Formed s) (c : Call) (me k : ℕ) (h : Lives (s .cap) k) where
   -- the test passes on to children

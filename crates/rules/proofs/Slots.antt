@@ -7,7 +7,7 @@ use native.Mathlib.Omega.{arith}
 use lib.Dec.{eqb}
 use borrow.Author.Tests.{eqb-true, eqb-false, eq-eqb, ne-eqb}
 use Rattle.rules.specs.Slots.{at, find, some, sumOver, one, countOver}
-use Rattle.rules.proofs.Tests.{by-bool, by-eq, refuted, not-is-false, pick-yes, pick-not}
+use Rattle.rules.proofs.Tests.{by-eq, refuted, not-is-false, pick-yes, pick-not, pick-by}
 
 -- ---- one slot changed
 
@@ -15,9 +15,9 @@ use Rattle.rules.proofs.Tests.{by-bool, by-eq, refuted, not-is-false, p
 pub at-by : {A : Type 0} (P : ℕ → A → Type 0) (f : ℕ → A) (i : ℕ) (v : A)
     → P i v → ((j : ℕ) → j ≢ i → P j (f j)) → (j : ℕ) → P j (at f i v j)
 unfolding at
-at-by P f i v p h j = by-bool (eqb j i)
-    (λ e. subst (P j) (sym (pick-yes (eqb j i) v (f j) e)) (subst (λ x. P x v) (sym (eqb-true j i e)) p))
-    (λ e. subst (P j) (sym (pick-not (eqb j i) v (f j) e)) (h j (eqb-false j i e)))
+at-by P f i v p h j = pick-by (P j) (eqb j i) v (f j)
+    (λ e. subst (λ x. P x v) (sym (eqb-true j i e)) p)
+    (λ e. h j (eqb-false j i e))
 
 pub at-here : {A : Type 0} (f : ℕ → A) (i : ℕ) (v : A) → at f i v i ≡ v
 unfolding at

@@ -19,7 +19,7 @@ use Rattle.rules.specs.Calls.{emptied}
 use Rattle.rules.specs.Rule.{stopped, paid, late, rule, isDone}
 use Rattle.rules.specs.Ledger.{Ledger, found, newLine, entry, book}
 use Rattle.rules.specs.Demand.{FreeObject, FreeCap, Open, Allowed}
-use Rattle.rules.proofs.Tests.{by-bool, pick-yes, pick-not}
+use Rattle.rules.proofs.Tests.{by-bool, pick-not, pick-by}
 use Rattle.rules.proofs.Sound.{Kept, kept-same, kept-then}
 use Rattle.rules.proofs.Link.{Linking, num-some}
 use Rattle.rules.proofs.Presenting.{found-num}
@@ -86,10 +86,7 @@ stopped-by : (s : State) (c : Call) (P : State → Type 0)
     → (early s c ≡ 4 → P (setTerminated s (caller s c) true)) → P s → P (stopped s c (early s c))
 unfolding stopped
 stopped-by s c P a b =
-    let x : State = setTerminated s (caller s c) true in
-    by-bool (eqb (early s c) 4)
-    (λ e. subst P (sym (pick-yes (eqb (early s c) 4) x s e)) (a (eqb-true _ _ e)))
-    (λ e. subst P (sym (pick-not (eqb (early s c) 4) x s e)) b)
+    pick-by P (eqb (early s c) 4) (setTerminated s (caller s c) true) s (λ e. a (eqb-true _ _ e)) (λ _. b)
 
 module _ (s : State) (G : Formed s) (c : Call) where
   pub keep-paid : early s c ≡ 0 → Kept s (paid s c)

@@ -68,6 +68,12 @@ pub pick-not : {A : Type 0} (b : Bool) (x y : A) → b ≡ false → _≡_ {A = 
 pick-not true x y e = absurd (true≢false e)
 pick-not false x y e = refl
 
+-- what holds of each holds of the one picked
+pub pick-by : {A : Type 0} (P : A → Type 0) (b : Bool) (x y : A) → (b ≡ true → P x) → (b ≡ false → P y)
+    → P (elim b [ true ↦ x | false ↦ y ])
+pick-by P true x y f g = f refl
+pick-by P false x y f g = g refl
+
 -- ---- names and passwords
 
 pub same-name : (a b : Name) → sameName a b ≡ true → a ≡ b
