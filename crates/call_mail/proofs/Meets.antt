@@ -23,7 +23,7 @@ use Rattle.layout.specs.Rows.{flagOf, countOf, lengthOf, textIn, masterOf, owne
 use Rattle.layout.specs.View.{isProcess, messages, view}
 use Rattle.layout.specs.WellFormed.{Plain}
 use Rattle.layout.proofs.Shown.{process-yes, process-is, process-lives, process-flag, cap-object, cash-here, box-here}
-use Rattle.layout.proofs.Lengths.{messages-length}
+use Rattle.layout.proofs.Lengths.{box-length}
 use Rattle.call_steps.specs.Run.{Process, Held, MeetsPlain, over, handedOver}
 use Rattle.call_steps.proofs.Meeting.{none, takes, DoesPlain, plain-settled}
 use Rattle.call_steps.proofs.Holding.{target-of}
@@ -109,8 +109,7 @@ module _ {b l w : List ℕ} (f : Plain b l w) where
           cap-object b l w k,
           process-is b l w o,
           cash,
-          box-here b l w o e,
-          messages-length (lengthOf b) (sumOf w) (textIn b) (countOf b o),
+          box-length b l w o e,
         ))
         (λ e. rw (cap-object b l w k, process-is b l w o, e))
 
@@ -167,10 +166,7 @@ module _ {b l w : List ℕ} (f : Plain b l w) where
 
     receive-stop : Process b l me → receiveStop b me ≡ first (receiveRefuses s c me k)
     unfolding receiveStop receiveRefuses
-    receive-stop m = rw (
-      box-here b l w me (process-yes (masterOf l) (flagOf b) me (m .live) (m .flag)),
-      messages-length (lengthOf b) (sumOf w) (textIn b) (countOf b me),
-    )
+    receive-stop m = rw (box-length b l w me (process-yes (masterOf l) (flagOf b) me (m .live) (m .flag)))
 
     -- the state after the oldest message, where these are the other ones
     abbrev received : List Message → State

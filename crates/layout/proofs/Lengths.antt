@@ -1,13 +1,16 @@
 -- How long the lists of the view are: an object's bytes, a box and its messages.
 use Prim.Native.Nat.{ℕ, zero, suc, _+_, _*_, _≤_, _<_}
-use mathlib.Core.Path.{_≡_, refl, ap}
+use mathlib.Core.Path.{_≡_, refl, ap, _∙_}
+use mathlib.Core.Bool.{true}
 use mathlib.Core.List.{List, [], _∷_}
 use native.Mathlib.Omega.{arith}
 use lib.ListN.{length, take, drop, length-append, length-take, length-drop}
 use Rattle.rules.specs.Store.{blocks}
 use Rattle.rules.specs.Valid.{Short}
-use Rattle.layout.specs.View.{gather, messages}
+use Rattle.layout.specs.Rows.{flagOf, countOf, lengthOf, textIn, masterOf, sumOf}
+use Rattle.layout.specs.View.{isProcess, gather, messages, view}
 use Rattle.layout.specs.Shape.{Chain}
+use Rattle.layout.proofs.Shown.{box-here}
 
 -- 64 bytes for each block of a chain; the store has 513 times 64
 pub gather-length : (next : ℕ → ℕ) (store : List ℕ) → length store ≡ 32832
@@ -46,3 +49,9 @@ module _ (len sum : ℕ → ℕ) (text : List ℕ) where
             let next : suc i + m ≡ i + suc m = omega arith in
             rw next (h (suc m) (omega arith))),
       )
+
+-- the box of a process has as many messages as its count says
+pub box-length : (b l w : List ℕ) (o : ℕ) → isProcess (masterOf l) (flagOf b) o ≡ true
+    → length (view b l w .box o) ≡ countOf b o
+box-length b l w o h =
+    ap length (box-here b l w o h) ∙ messages-length (lengthOf b) (sumOf w) (textIn b) (countOf b o) (o * 4)
