@@ -436,7 +436,10 @@ impl Store {
     }
 
     fn wait(&mut self, caller: Name) -> Outcome {
-        self.object(caller)?.waiting = true;
+        let process = self.object(caller)?;
+        if process.messages.is_empty() {
+            process.waiting = true;
+        }
         Ok(Answer::default())
     }
 

@@ -305,7 +305,7 @@ pub const EXAMPLES: [Example; 17] = [
     },
     Example {
         name: "mail",
-        touches: "a full box, an empty one, waiting and its end",
+        touches: "a full box, an empty one, waits with mail and without, and the mark's end",
         text: "1000 5 9
 1 0 1 1 0 1 8191 2 11 12
 13 0 1 1 2 11 12 0
@@ -323,8 +323,10 @@ pub const EXAMPLES: [Example; 17] = [
 14 1 2
 15 1 2
 14 1 2
-13 0 1 1 2 11 12 50 3
+15 1 2
 14 1 2
+13 0 1 1 2 11 12 50 3
+15 1 2
 14 1 2
 14 1 2
 13 0 1 1 2 11 12 60

@@ -1,9 +1,10 @@
 //! Scenes that random runs must reach beside the refusals: locked callers, processes that act
-//! on themselves, names used again, and limits on each side of a moneyword.
+//! on themselves, names used again, limits on each side of a moneyword, and waits with mail and
+//! without.
 
 use reference::call::{call_kind, Action, Call, Operation};
 use reference::claims::CheckedRun;
-use reference::numbers::{DONE, MAX_WORD, NOT_FOUND, NOT_REVIVABLE, TOP};
+use reference::numbers::{DONE, MAX_MESSAGES, MAX_WORD, NOT_FOUND, NOT_REVIVABLE, TOP};
 use std::cmp::Ordering;
 
 /// The scenes that a call, answered with this code, makes on the run before it.
@@ -38,6 +39,10 @@ pub fn scenes(before: &CheckedRun, call: &Call, code: u32) -> Vec<String> {
                 met.push("name of a locked process used again".into());
             }
         }
+        Operation::Wait if code == DONE => {
+            let caller = before.store.objects.get(&call.caller);
+            met.extend(caller.map(|c| waited(c.messages.len()).to_owned()));
+        }
         _ => {}
     }
     met
@@ -57,8 +62,17 @@ fn limited(limit: u32, moneyword: u32) -> Option<&'static str> {
     })
 }
 
+/// How much mail a process that waits has.
+fn waited(messages: usize) -> &'static str {
+    match messages {
+        0 => "wait with an empty box",
+        MAX_MESSAGES => "wait with a full box",
+        _ => "wait with mail",
+    }
+}
+
 /// The scenes that must be met.
-pub const SCENES: [&str; 24] = [
+pub const SCENES: [&str; 27] = [
     "locked caller, top bit set, done",
     "locked caller, top bit set, answers 5",
     "locked caller, top bit clear, done",
@@ -83,4 +97,7 @@ pub const SCENES: [&str; 24] = [
     "limit at the parent's moneyword",
     "limit above the parent's moneyword",
     "the largest limit",
+    "wait with an empty box",
+    "wait with mail",
+    "wait with a full box",
 ];

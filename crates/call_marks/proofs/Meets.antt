@@ -5,6 +5,7 @@ use mathlib.Core.Path.{_≡_, refl, sym, ap, _∙_}
 use mathlib.Core.Bool.{false}
 use mathlib.Core.List.{List}
 use native.Mathlib.Omega.{arith}
+use lib.Dec.{eqb}
 use lib.ListN.{length, length-set}
 use Rattle.rules.specs.Store.{State}
 use Rattle.rules.specs.Rights.{Op, suspend, resume, applyLock, wait, revive, capInfo, op}
@@ -12,12 +13,13 @@ use Rattle.rules.specs.Call.{Call, done, tells}
 use Rattle.rules.specs.Refusals.{_when_, first}
 use Rattle.rules.specs.Changes.{earn, spend, setSuspended}
 use Rattle.rules.specs.Calls.{processRefuses, reviveRefuses, refuses, does, suspendDoes, resumeDoes, applyLockDoes}
-use Rattle.rules.specs.Calls.{waitDoes, reviveDoes, capInfoDoes}
-use Rattle.rules.proofs.Tests.{by-bool}
+use Rattle.rules.specs.Calls.{boxEmpty, waitDoes, reviveDoes, capInfoDoes}
+use Rattle.rules.proofs.Tests.{by-bool, pick-yes, pick-not, pick-by}
 use Rattle.layout.specs.Layout as Layout
-use Rattle.layout.specs.Rows.{flagOf, ownerOf}
+use Rattle.layout.specs.Rows.{flagOf, countOf, ownerOf}
 use Rattle.layout.specs.View.{isSet, view}
 use Rattle.layout.specs.WellFormed.{Plain}
+use Rattle.layout.proofs.Lengths.{box-length}
 use Rattle.layout.proofs.Shown.{cap-object, cap-here, money-here, lock-here, cash-here, marks-here}
 use Rattle.call_steps.specs.Run.{Process, Held, MeetsPlain, over, Target}
 use Rattle.call_marks.specs.Runs.{told, processStop, suspendedRun, lockedWords, lockRun, waitRun}
@@ -70,8 +72,14 @@ module _ {b l w : List ℕ} (f : Plain b l w) (c : Call) (me k : ℕ) where
 
   pub wait-meets : Process b l me → op (c .number) ≡ wait → MeetsPlain l s c me k wait (waitRun b l w me)
   unfolding takes refuses does waitDoes first waitRun isSet
-  wait-meets m e = plain-done b l w c me k wait (rw e refl) refl
-      (does-over wait _ w _ refl (waiting-marked m 1 (f .sized .bytes) w (f .cells) (omega arith)) (f .sized .words))
+  wait-meets m e =
+      let empty : boxEmpty s c me k ≡ eqb (countOf b me) 0 = rw (box-length b l w me (process-shown m)) refl in
+      plain-done b l w c me k wait (rw e refl) refl
+      (pick-by (λ b′. DoesPlain l s c me k wait (over 0 b′ l w)) (eqb (countOf b me) 0) _ _
+      (λ z. does-over wait _ w _ (pick-yes (boxEmpty s c me k) _ _ (empty ∙ z))
+      (waiting-marked m 1 (f .sized .bytes) w (f .cells) (omega arith)) (f .sized .words))
+      (λ z. does-over wait b w s (pick-not (boxEmpty s c me k) _ _ (empty ∙ z))
+      (record { shows = refl; sized = f .sized .bytes; cells = f .cells }) (f .sized .words)))
 
   -- ---- apply_lock
 

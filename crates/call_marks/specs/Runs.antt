@@ -3,7 +3,7 @@
 use Prim.Native.Nat.{ℕ, _+_, _-_, _≤_}
 use mathlib.Core.Path.{_≡_}
 use mathlib.Core.Logic.{_≢_}
-use mathlib.Core.Bool.{not, _||_}
+use mathlib.Core.Bool.{true, false, not, _||_}
 use mathlib.Core.List.{List, [], _∷_}
 use lib.Dec.{eqb, ltb}
 use lib.ListN.{length, set}
@@ -14,7 +14,7 @@ use Rattle.rules.specs.Store.{Lockword}
 use Rattle.rules.specs.Call.{tells}
 use Rattle.rules.specs.Refusals.{_when_, first}
 use Rattle.layout.specs.Layout as Layout
-use Rattle.layout.specs.Rows.{flagOf, terminatedOf, masterOf, ownerOf, cashOf, lock1Of, lock2Of}
+use Rattle.layout.specs.Rows.{flagOf, terminatedOf, countOf, masterOf, ownerOf, cashOf, lock1Of, lock2Of}
 use Rattle.layout.specs.Rows.{moneyOf, startOf, endOf}
 use Rattle.layout.specs.View.{isSet, view}
 use Rattle.layout.specs.WellFormed.{Sized}
@@ -50,10 +50,13 @@ lockedWords w o x = set
 unfoldable pub lockRun : List ℕ → List ℕ → List ℕ → ℕ → Lockword → Ran
 lockRun b l w k x = settled (processStop b l k) b l w (over Code.done b l (lockedWords w (ownerOf l k) x))
 
--- ---- wait
+-- ---- wait: the mark, where the box is empty
+
+abbrev pub waitBytes : List ℕ → ℕ → List ℕ
+waitBytes b me = elim (eqb (countOf b me) 0) [ true ↦ set b (Layout.WAITING + me) 1 | false ↦ b ]
 
 unfoldable pub waitRun : List ℕ → List ℕ → List ℕ → ℕ → Ran
-waitRun b l w me = over Code.done (set b (Layout.WAITING + me) 1) l w
+waitRun b l w me = over Code.done (waitBytes b me) l w
 
 -- ---- revive: 8; 16 not terminated, or sum 0; 9 the caller's cash is below the sum
 

@@ -1,15 +1,17 @@
-// "suspend, resume: 8 not a process. Sets or clears the mark." "wait: no more. Sets waiting."
-ghost use Prim.Native.Nat.{ℕ, _≤_};
+// "suspend, resume: 8 not a process. Sets or clears the mark." "wait: no more."
+// "With an empty box it sets the mark."
+ghost use Prim.Native.Nat.{ℕ};
 ghost use mathlib.Core.Path.{_≡_};
 ghost use mathlib.Core.List.{List};
 ghost use lib.ListN.{length};
-ghost use Rattle.rules.specs.Limit as Limit;
 ghost use Rattle.layout.specs.Layout as Layout;
+ghost use Rattle.call_steps.specs.Tests.{ObjectSlot};
 ghost use Rattle.call_steps.specs.Replies.{Replies};
 ghost use Rattle.call_marks.specs.Runs.{MarkAsks, suspendedRun, waitRun};
 use crate::flag::has_flag;
 use call_steps::request::Reply;
 use call_steps::target::target;
+use layout::COUNT;
 use layout::SUSPENDED;
 use layout::WAITING;
 use values::code::NOT_PROCESS;
@@ -44,11 +46,13 @@ pub fn resume(bytes: &mut [u8], links: &[u16], k: usize) -> Reply
     set_suspended(bytes, links, k, 0)
 }
 
-// The waiting mark of the caller, in slot me.
+// The waiting mark of the caller, in slot me, where its box is empty.
 pub fn wait(bytes: &mut [u8], me: usize) -> Reply
-    requires { ⌜ length (now bytes) ≡ Layout.BYTES ⌝ ∗ ⌜ me ≤ Limit.objects ⌝ }
+    requires { ⌜ length (now bytes) ≡ Layout.BYTES ⌝ ∗ ⌜ ObjectSlot me ⌝ }
     ensures { λ r. ⌜ ((l w : List ℕ) → Replies r (now (bytes .exit)) l w (waitRun (now (bytes .entry)) l w me)) ⌝ }
 {
-    bytes[WAITING + me] = 1;
+    if bytes[COUNT + me] == 0 {
+        bytes[WAITING + me] = 1;
+    }
     Reply::done()
 }

@@ -16,12 +16,13 @@ use Rattle.rules.specs.Changes.{earn, spend, toHouse, setSuspended, setWaiting,
 use Rattle.rules.specs.Changes.{endWhere, newObject, endObject}
 use Rattle.rules.specs.Calls.{readDoes, writeDoes, capInfoDoes, deriveCapDoes, deleted, emptied, renameObjDoes}
 use Rattle.rules.specs.Calls.{withdrawDoes, depositDoes, suspendDoes, resumeDoes, applyLockDoes, sendDoes, receiveDoes}
-use Rattle.rules.specs.Calls.{waitDoes, reviveDoes, does}
+use Rattle.rules.specs.Calls.{reviveDoes, does}
 use Rattle.rules.specs.Rule.{stopped, paid, rule}
 use Rattle.rules.proofs.Tests.{pick-by}
 use Rattle.rules.proofs.Slots.{at-by}
 use Rattle.rules.proofs.Ready.{slotOf}
 use Rattle.rules.proofs.Outcomes.{rule-by}
+use Rattle.rules.proofs.Keeping.{wait-by}
 use Rattle.rules.proofs.Deleting.{delete-by}
 use Rattle.layout.specs.Rows.{masterOf}
 use Rattle.layout.specs.View.{view}
@@ -61,7 +62,7 @@ module _ (s : State) (c : Call) (me k : ℕ) (h : Choice) (q : ℕ) (z : s .obje
 
   does-new : (o : Op) → does s c me k h o .after .object q .live ≡ true → o ≡ makeObj
   unfolding does readDoes writeDoes capInfoDoes deriveCapDoes renameObjDoes withdrawDoes depositDoes suspendDoes
-      resumeDoes applyLockDoes sendDoes waitDoes reviveDoes done handsBack handsOver tells emptied endWhere earn spend
+      resumeDoes applyLockDoes sendDoes reviveDoes done handsBack handsOver tells emptied endWhere earn spend
       onClimb newCap withCash withMoney withCap withBytes withLock withBox setSuspended setWaiting setTerminated
       withMarks
   does-new makeObj a = refl
@@ -78,7 +79,7 @@ module _ (s : State) (c : Call) (me k : ℕ) (h : Choice) (q : ℕ) (z : s .obje
   does-new applyLock a = none a
   does-new send a = none a
   does-new receive a = absurd (receive-none (s .box me) a)
-  does-new wait a = none a
+  does-new wait a = wait-by s c me k (λ x. x .after .object q .live ≡ true → wait ≡ makeObj) none none a
   does-new revive a = none a
   does-new unknown a = none a
 

@@ -15,12 +15,13 @@ use Rattle.rules.specs.Refusals.{argumentsFit, caller, early}
 use Rattle.rules.specs.Changes.{setTerminated}
 use Rattle.rules.specs.Calls.{makeObjDoes, readDoes, writeDoes, capInfoDoes, deriveCapDoes, renameObjDoes}
 use Rattle.rules.specs.Calls.{withdrawDoes, depositDoes, suspendDoes, resumeDoes, applyLockDoes, sendDoes}
-use Rattle.rules.specs.Calls.{receiveDoes, waitDoes, reviveDoes, does}
+use Rattle.rules.specs.Calls.{receiveDoes, reviveDoes, does}
 use Rattle.rules.specs.Rule.{stopped, paid, late, rule, isDone}
 use Rattle.rules.specs.Theorems.{Refused}
 use Rattle.rules.proofs.Tests.{by-eq, pick-yes, pick-not}
 use Rattle.rules.proofs.Ready.{early-low, late-high, slotOf, early-fits}
 use Rattle.rules.proofs.Outcomes.{done-out, rule-early, rule-late, rule-done, rule-by}
+use Rattle.rules.proofs.Keeping.{wait-by}
 use Rattle.rules.proofs.Deleting.{delete-by}
 
 -- ---- the answer of a done call
@@ -29,7 +30,7 @@ module _ (s : State) (c : Call) (me k : ℕ) where
   -- it is 0
   does-done : (h : Choice) (o : Op) → argumentsFit o c ≡ true → does s c me k h o .answer .code ≡ 0
   unfolding argumentsFit does makeObjDoes readDoes writeDoes capInfoDoes deriveCapDoes renameObjDoes withdrawDoes depositDoes
-      suspendDoes resumeDoes applyLockDoes sendDoes receiveDoes waitDoes reviveDoes done code handsBack handsOver tells
+      suspendDoes resumeDoes applyLockDoes sendDoes receiveDoes reviveDoes done code handsBack handsOver tells
   does-done h makeObj e = refl
   does-done h read e = refl
   does-done h write e = refl
@@ -48,7 +49,7 @@ module _ (s : State) (c : Call) (me k : ℕ) where
       received-done : (l : List Message) → receiveDoes s c me k l .answer .code ≡ 0
       received-done [] = refl
       received-done (m ∷ l) = refl
-  does-done h wait e = refl
+  does-done h wait e = wait-by s c me k (λ x. x .answer .code ≡ 0) refl refl
   does-done h revive e = refl
   does-done h unknown e = absurd (false≢true e)
 

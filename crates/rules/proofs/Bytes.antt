@@ -20,7 +20,7 @@ use Rattle.rules.specs.Changes.{earn, spend, toHouse, setSuspended, setW
 use Rattle.rules.specs.Changes.{endWhere, newObject, endObject}
 use Rattle.rules.specs.Calls.{makeObjDoes, madeObject, readDoes, writeDoes, written, capInfoDoes, deriveCapDoes}
 use Rattle.rules.specs.Calls.{deleted, emptied, renameObjDoes, withdrawDoes, depositDoes, suspendDoes, resumeDoes}
-use Rattle.rules.specs.Calls.{applyLockDoes, sendDoes, receiveDoes, waitDoes, reviveDoes, does}
+use Rattle.rules.specs.Calls.{applyLockDoes, sendDoes, receiveDoes, reviveDoes, does}
 use Rattle.rules.specs.Rule.{stopped, paid, late, rule, isDone}
 use Rattle.rules.specs.Demand.{FreeObject, Open}
 use Rattle.rules.proofs.Tests.{by-eq, pick-by}
@@ -28,6 +28,7 @@ use Rattle.rules.proofs.Slots.{at-here, at-else}
 use Rattle.rules.proofs.Ready.{slotOf}
 use Rattle.rules.proofs.Outcomes.{done-out, rule-by}
 use Rattle.rules.proofs.Answers.{refused-not, is-done}
+use Rattle.rules.proofs.Keeping.{wait-by}
 use Rattle.rules.proofs.Deleting.{delete-by}
 
 -- of slot q, from s to r
@@ -120,7 +121,7 @@ module _ (s : State) (c : Call) (me k : ℕ) (h : Choice) (q : ℕ) where
   does-bytes : (o : Op) → (o ≡ makeObj → s .object (h .object) .live ≡ false)
       → Bytes s q (bytesOf s c me k q o) (does s c me k h o .after)
   unfolding does bytesOf makeObjDoes readDoes writeDoes capInfoDoes deriveCapDoes renameObjDoes withdrawDoes depositDoes
-      suspendDoes resumeDoes applyLockDoes sendDoes waitDoes reviveDoes done handsBack handsOver tells emptied endWhere
+      suspendDoes resumeDoes applyLockDoes sendDoes reviveDoes done handsBack handsOver tells emptied endWhere
       earn spend onClimb newCap newObject withCash withMoney withCap withBytes withLock withBox setSuspended setWaiting
       setTerminated withMarks
   does-bytes makeObj g =
@@ -140,7 +141,8 @@ module _ (s : State) (c : Call) (me k : ℕ) (h : Choice) (q : ℕ) where
   does-bytes applyLock g = same s q _ refl refl
   does-bytes send g = same s q _ refl refl
   does-bytes receive g = receive-bytes (s .box me)
-  does-bytes wait g = same s q _ refl refl
+  does-bytes wait g =
+      wait-by s c me k (λ x. Bytes s q (s .bytes q) (x .after)) (same s q _ refl refl) (same s q _ refl refl)
   does-bytes revive g = same s q _ refl refl
   does-bytes unknown g = same s q _ refl refl
 

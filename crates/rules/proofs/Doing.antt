@@ -6,7 +6,7 @@ use mathlib.Core.Bool.{Bool, true, false, true≢false, false≢true}
 use mathlib.Core.List.{List, [], _∷_, _++_}
 use native.Mathlib.Omega.{arith}
 use lib.Dec.{eqb}
-use lib.ListN.{take, drop}
+use lib.ListN.{length, take, drop}
 use lib.Bits.{bitXor}
 use borrow.Author.Tests.{eqb-true, eq-eqb}
 use Rattle.rules.specs.Store.{Lockword, Message, Object, State, noObject, descends, sumsIn}
@@ -21,7 +21,7 @@ use Rattle.rules.specs.Changes.{endWhere, newObject, endObject}
 use Rattle.rules.specs.Calls.{moved, madeObject, madeMaster, makeObjDoes, readDoes, written, writeDoes, capInfoDoes}
 use Rattle.rules.specs.Calls.{child, deriveCapDoes, deleted, forfeit, deleteCapDoes, emptied, newMaster, renameObjDoes}
 use Rattle.rules.specs.Calls.{withdrawDoes, depositDoes, suspendDoes, resumeDoes, applyLockDoes, message, sendDoes}
-use Rattle.rules.specs.Calls.{receiveDoes, waitDoes, reviveDoes, does}
+use Rattle.rules.specs.Calls.{boxEmpty, receiveDoes, waitDoes, reviveDoes, does}
 use Rattle.rules.specs.Demand.{FreeObject, FreeCap}
 use Rattle.rules.proofs.Tests.{not-lives}
 use Rattle.rules.proofs.Slots.{at-here}
@@ -81,7 +81,10 @@ module _ {m : Maps} (s t : State) (S : Formed s) (T : Formed t) (A : CarriedBy m
 
   wait-alike : Alike (waitDoes s c me k) (waitDoes t c me′ k′)
   unfolding waitDoes
-  wait-alike = done-alike (waiting A once me me′ who me-is true)
+  wait-alike = pick-alike (boxEmpty s c me k) (boxEmpty t c me′ k′) _ _ _ _
+      (ap (λ (l : List Message). eqb (length l) 0) (box-me s t S T A c me me′ k k′ who me-is k-is))
+      (λ _. done-alike (waiting A once me me′ who me-is true))
+      (λ _. done-alike A)
 
   -- ---- make_obj: an object, then its master
 

@@ -11,14 +11,14 @@ use Rattle.rules.specs.Call.{Call, Choice, done, handsOver, tells}
 use Rattle.rules.specs.Update.{withBytes, withCash, withMarks, withBox}
 use Rattle.rules.specs.Changes.{earn, spend, setSuspended, setWaiting, setTerminated}
 use Rattle.rules.specs.Calls.{readDoes, writeDoes, capInfoDoes, emptied, suspendDoes, resumeDoes, sendDoes}
-use Rattle.rules.specs.Calls.{receiveDoes, waitDoes, reviveDoes, does}
+use Rattle.rules.specs.Calls.{receiveDoes, reviveDoes, does}
 use Rattle.rules.specs.Ledger.{Ledger, entry}
 use Rattle.rules.specs.Demand.{Words, FreeObject, FreeCap}
 use Rattle.rules.proofs.Sound.{Kept, kept-same}
 use Rattle.rules.proofs.Link.{Linking}
 use Rattle.rules.proofs.Ready.{Ready}
 use Rattle.rules.proofs.Keeping.{keep-write, keep-suspend, keep-resume, keep-send, keep-receive, keep-wait}
-use Rattle.rules.proofs.Keeping.{keep-revive}
+use Rattle.rules.proofs.Keeping.{keep-revive, wait-by}
 use Rattle.rules.proofs.Purse.{keep-withdraw, keep-deposit, link-withdraw, link-deposit}
 use Rattle.rules.proofs.Locking.{keep-apply-lock, link-apply-lock}
 use Rattle.rules.proofs.Deriving.{keep-derive, link-derive}
@@ -58,8 +58,8 @@ module _ (s : State) (G : Formed s) (c : Call) (me k : ℕ) (h : Choice) (W : Wo
     -- most calls leave the linked parts of the store and the ledger alone
     pub links : (o : Op) → Ready s c me k o → Takes s c me k h o
         → Linking (does s c me k h o .after) (entry l c (K .num k) o)
-    unfolding does entry presents readDoes writeDoes capInfoDoes suspendDoes resumeDoes sendDoes receiveDoes waitDoes
-        reviveDoes done handsOver tells earn spend withCash withBytes withBox setSuspended setWaiting setTerminated
+    unfolding does entry presents readDoes writeDoes capInfoDoes suspendDoes resumeDoes sendDoes receiveDoes reviveDoes
+        done handsOver tells earn spend withCash withBytes withBox setSuspended setWaiting setTerminated
         withMarks
     links makeObj r q = link-make s G c me k W r h (q .object refl) (q .made refl) l K
     links read r q = K
@@ -79,6 +79,6 @@ module _ (s : State) (G : Formed s) (c : Call) (me k : ℕ) (h : Choice) (W : Wo
         received : (m : List Message) → Linking (receiveDoes s c me k m .after) l
         received [] = K
         received (x ∷ m) = K
-    links wait r q = K
+    links wait r q = wait-by s c me k (λ x. Linking (x .after) l) K K
     links revive r q = K
     links unknown r q = K

@@ -13,14 +13,14 @@ use Rattle.rules.specs.Store.{Window, Marks, Message, Object, State, noM
 use Rattle.rules.specs.Store.{allBoxes, moneyIn}
 use Rattle.rules.specs.Valid.{LiveObject, Lives, ProcessOnly, Short, BoxFits, Formed}
 use Rattle.rules.specs.Rights.{write, suspend, resume, send, receive, wait, revive, presents}
-use Rattle.rules.specs.Call.{Call, done, handsOver}
+use Rattle.rules.specs.Call.{Call, Outcome, done, handsOver}
 use Rattle.rules.specs.Refusals.{_when_, ordered, transferFits, argumentsFit}
 use Rattle.rules.specs.Update.{withHouse, withBytes, withCash, withMarks, withBox}
 use Rattle.rules.specs.Changes.{earn, spend, toHouse, setSuspended, setWaiting, setTerminated}
 use Rattle.rules.specs.Calls.{liesIn, transferRefuses, written, writeDoes, processRefuses, suspendDoes}
-use Rattle.rules.specs.Calls.{resumeDoes, sendRefuses, message, sendDoes, receiveDoes, waitDoes, reviveRefuses}
-use Rattle.rules.specs.Calls.{reviveDoes, refuses}
-use Rattle.rules.proofs.Tests.{all2, all3, not-is-false}
+use Rattle.rules.specs.Calls.{resumeDoes, sendRefuses, message, sendDoes, boxEmpty, receiveDoes, waitDoes}
+use Rattle.rules.specs.Calls.{reviveRefuses, reviveDoes, refuses}
+use Rattle.rules.proofs.Tests.{all2, all3, not-is-false, pick-by}
 use Rattle.rules.proofs.Slots.{at-by, at-all, sum-at}
 use Rattle.rules.proofs.Forest.{master-in, master-unique}
 use Rattle.rules.proofs.Sound.{Sound, sound-of, formed-of, sound-house, sound-bytes, sound-cash, sound-marks}
@@ -99,6 +99,13 @@ module _ (s : State) (G : Formed s) (i : ℕ) (p : Process (s .object) i) where
   pub keep-mark : (m : Marks) → Kept s (withMarks s (at (s .marks) i m))
   unfolding withMarks
   keep-mark m = record { formed = formed-of (sound-mark (sound-of G) i p m) (G .master); total = total-marks s _ }
+
+-- ---- wait sets the caller's mark, or nothing
+
+pub wait-by : (s : State) (c : Call) (me k : ℕ) (P : Outcome → Type 0) → P (done (setWaiting s me true)) → P (done s)
+    → P (waitDoes s c me k)
+unfolding waitDoes
+wait-by s c me k P marked same = pick-by P (boxEmpty s c me k) _ _ (λ _. marked) (λ _. same)
 
 -- ---- messages
 
@@ -205,8 +212,8 @@ module _ (s : State) (G : Formed s) (c : Call) (me k : ℕ) where
   keep-receive r = received (s .box me) refl (r .who)
 
   pub keep-wait : Ready s c me k wait → Kept s (waitDoes s c me k .after)
-  unfolding waitDoes setWaiting done
-  keep-wait r = keep-mark s G me (r .who) _
+  unfolding setWaiting done
+  keep-wait r = wait-by s c me k (λ x. Kept s (x .after)) (keep-mark s G me (r .who) _) (kept-same G)
 
   pub keep-revive : Ready s c me k revive → Kept s (reviveDoes s c me k .after)
   unfolding reviveDoes done spend earn withCash setTerminated withMarks refuses reviveRefuses _when_ presents

@@ -208,18 +208,22 @@ module _ (s : State) (c : Call) (me k : ℕ) where
 
   -- ---- receive: 15 the box is empty
 
+  abbrev pub boxEmpty : Bool
+  boxEmpty = eqb (length (s .box me)) 0
+
   unfoldable pub receiveRefuses : List Refusal
-  receiveRefuses = Code.boxEmpty when eqb (length (s .box me)) 0 ∷ []
+  receiveRefuses = Code.boxEmpty when boxEmpty ∷ []
 
   -- takes the oldest; its sum joins the cash
   unfoldable pub receiveDoes : List Message → Outcome
   receiveDoes [] = done s
   receiveDoes (m ∷ rest) = handsOver (m .sum) (m .bytes) (earn (withBox s (at (s .box) me rest)) me (m .sum))
 
-  -- ---- wait: no more. Sets waiting.
+  -- ---- wait: no more. With an empty box it sets the mark; with at least one message in the box it is done but sets no
+  -- mark (02, CR 2)
 
   unfoldable pub waitDoes : Outcome
-  waitDoes = done (setWaiting s me true)
+  waitDoes = elim boxEmpty [ true ↦ done (setWaiting s me true) | false ↦ done s ]
 
   -- ---- revive: 8; 16 not terminated, or sum 0; 9 the caller's cash is below the sum
 
