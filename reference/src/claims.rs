@@ -30,8 +30,8 @@ impl CheckedRun {
         CheckedRun { store: Store::fresh(supply, p1, p2), ledger: Ledger::fresh(p1, p2) }
     }
 
-    /// Runs a call, feeds the ledger, and checks demand 3, the money total, the store, and what
-    /// a refusal changes.
+    /// Runs a call, feeds the ledger, and checks demand 3, the money total, the store, that no
+    /// process with mail waits, and what a refusal changes.
     pub fn run(&mut self, call: &Call) -> Checked<Answer> {
         let before = self.store.clone();
         let ended = ended_by(&self.ledger, call);
@@ -42,6 +42,7 @@ impl CheckedRun {
         ensure(kept, || "money total".into())?;
         well_formed(&self.store)?;
         check_ledger(&self.store, &self.ledger)?;
+        check_mail(&self.store)?;
         match ended {
             Some(ended) if done => check_delete(before, &self.store, &ended)?,
             _ if !done => check_refusal(before, &self.store, call, &answer)?,
@@ -66,6 +67,12 @@ fn ended_by(ledger: &Ledger, call: &Call) -> Option<BTreeSet<Place>> {
     let derived = ledger.with_derived(ledger.find(call.caller, *key)?);
     let lines = derived.iter().map(|at| &ledger.lines[*at]);
     Some(lines.filter(|line| line.living).map(|line| place(line.key)).collect())
+}
+
+/// "A process with mail should not sleep."
+fn check_mail(store: &Store) -> Checked {
+    let sleeps = |object: &&Object| object.waiting && !object.messages.is_empty();
+    ensure(store.objects.values().find(sleeps).is_none(), || "a process with mail waits".into())
 }
 
 /// A done delete ended those and no others, and left every other capability unchanged.

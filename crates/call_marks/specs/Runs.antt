@@ -14,7 +14,7 @@ use Rattle.rules.specs.Store.{Lockword}
 use Rattle.rules.specs.Call.{tells}
 use Rattle.rules.specs.Refusals.{_when_, first}
 use Rattle.layout.specs.Layout as Layout
-use Rattle.layout.specs.Rows.{flagOf, terminatedOf, countOf, masterOf, ownerOf, cashOf, lock1Of, lock2Of}
+use Rattle.layout.specs.Rows.{flagOf, terminatedOf, countOf, ownerOf, cashOf, lock1Of, lock2Of}
 use Rattle.layout.specs.Rows.{moneyOf, startOf, endOf}
 use Rattle.layout.specs.View.{isSet, view}
 use Rattle.layout.specs.WellFormed.{Sized}

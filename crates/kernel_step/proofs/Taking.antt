@@ -79,7 +79,7 @@ module _ (s : State) (c : Call) (me k : ℕ) (h : Choice) (q : ℕ) (z : s .obje
   does-new applyLock a = none a
   does-new send a = none a
   does-new receive a = absurd (receive-none (s .box me) a)
-  does-new wait a = wait-by s c me k (λ x. x .after .object q .live ≡ true → wait ≡ makeObj) none none a
+  does-new wait a = wait-by s c me k (λ x. x .after .object q .live ≡ true → wait ≡ makeObj) (λ _. none) none a
   does-new revive a = none a
   does-new unknown a = none a
 

@@ -49,7 +49,7 @@ module _ (s : State) (c : Call) (me k : ℕ) where
       received-done : (l : List Message) → receiveDoes s c me k l .answer .code ≡ 0
       received-done [] = refl
       received-done (m ∷ l) = refl
-  does-done h wait e = wait-by s c me k (λ x. x .answer .code ≡ 0) refl refl
+  does-done h wait e = wait-by s c me k (λ x. x .answer .code ≡ 0) (λ _. refl) refl
   does-done h revive e = refl
   does-done h unknown e = absurd (false≢true e)
 

@@ -142,7 +142,7 @@ module _ (s : State) (c : Call) (me k : ℕ) (h : Choice) (q : ℕ) where
   does-bytes send g = same s q _ refl refl
   does-bytes receive g = receive-bytes (s .box me)
   does-bytes wait g =
-      wait-by s c me k (λ x. Bytes s q (s .bytes q) (x .after)) (same s q _ refl refl) (same s q _ refl refl)
+      wait-by s c me k (λ x. Bytes s q (s .bytes q) (x .after)) (λ _. same s q _ refl refl) (same s q _ refl refl)
   does-bytes revive g = same s q _ refl refl
   does-bytes unknown g = same s q _ refl refl
 

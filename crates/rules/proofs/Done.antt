@@ -79,6 +79,6 @@ module _ (s : State) (G : Formed s) (c : Call) (me k : ℕ) (h : Choice) (W : Wo
         received : (m : List Message) → Linking (receiveDoes s c me k m .after) l
         received [] = K
         received (x ∷ m) = K
-    links wait r q = wait-by s c me k (λ x. Linking (x .after) l) K K
+    links wait r q = wait-by s c me k (λ x. Linking (x .after) l) (λ _. K) K
     links revive r q = K
     links unknown r q = K

@@ -100,12 +100,17 @@ module _ (s : State) (G : Formed s) (i : ℕ) (p : Process (s .object) i) where
   unfolding withMarks
   keep-mark m = record { formed = formed-of (sound-mark (sound-of G) i p m) (G .master); total = total-marks s _ }
 
--- ---- wait sets the caller's mark, or nothing
+-- ---- wait sets the caller's mark, with an empty box, or nothing
 
-pub wait-by : (s : State) (c : Call) (me k : ℕ) (P : Outcome → Type 0) → P (done (setWaiting s me true)) → P (done s)
-    → P (waitDoes s c me k)
+empty-is : (l : List Message) → length l ≡ 0 → l ≡ []
+empty-is [] e = refl
+empty-is (m ∷ l) e = absurd (omega arith)
+
+pub wait-by : (s : State) (c : Call) (me k : ℕ) (P : Outcome → Type 0)
+    → (s .box me ≡ [] → P (done (setWaiting s me true))) → P (done s) → P (waitDoes s c me k)
 unfolding waitDoes
-wait-by s c me k P marked same = pick-by P (boxEmpty s c me k) _ _ (λ _. marked) (λ _. same)
+wait-by s c me k P marked same =
+    pick-by P (boxEmpty s c me k) _ _ (λ e. marked (empty-is (s .box me) (eqb-true _ _ e))) (λ _. same)
 
 -- ---- messages
 
@@ -213,7 +218,7 @@ module _ (s : State) (G : Formed s) (c : Call) (me k : ℕ) where
 
   pub keep-wait : Ready s c me k wait → Kept s (waitDoes s c me k .after)
   unfolding setWaiting done
-  keep-wait r = wait-by s c me k (λ x. Kept s (x .after)) (keep-mark s G me (r .who) _) (kept-same G)
+  keep-wait r = wait-by s c me k (λ x. Kept s (x .after)) (λ _. keep-mark s G me (r .who) _) (kept-same G)
 
   pub keep-revive : Ready s c me k revive → Kept s (reviveDoes s c me k .after)
   unfolding reviveDoes done spend earn withCash setTerminated withMarks refuses reviveRefuses _when_ presents

@@ -7,7 +7,7 @@ use mathlib.Core.List.{List, [], _∷_, _++_}
 use native.Mathlib.Omega.{arith}
 use lib.Dec.{eqb, leb, ltb}
 use borrow.Author.Tests.{eqb-false, leb-true, ltb-true, ltb-false}
-use Rattle.rules.specs.Store.{State, objectNamed}
+use Rattle.rules.specs.Store.{Marks, State, objectNamed}
 use Rattle.rules.specs.Valid.{Objects}
 use Rattle.rules.specs.Rights.{Op, makeObj, read, write, capInfo, deriveCap, deleteCap, renameObj}
 use Rattle.rules.specs.Rights.{withdraw, deposit, suspend, resume, applyLock, send, receive, wait, revive}
@@ -23,7 +23,7 @@ use Rattle.rules.specs.Calls.{makeObjRefuses, transferRefuses, deriveCap
 use Rattle.rules.specs.Calls.{withdrawRefuses, depositRefuses, processRefuses, sendRefuses, receiveRefuses}
 use Rattle.rules.specs.Calls.{reviveRefuses, refuses}
 use Rattle.rules.specs.Rule.{paid, late}
-use Rattle.rules.proofs.Tests.{by-bool, all2, all3, not-is-false, pick-yes, pick-not}
+use Rattle.rules.proofs.Tests.{by-bool, all2, all3, none2, not-is-true, not-is-false, pick-yes, pick-not}
 use Rattle.rules.proofs.Presenting.{Process, named, Shown, shown}
 
 -- ---- refusals in order
@@ -126,6 +126,17 @@ module _ (s : State) (c : Call) where
       (not (s .marks me .suspended || s .marks me .waiting || s .marks me .terminated)) e in
       let w = O .live me (f .0) .some in
       (record { live = f .0; process = f .1 }, named s (c .caller) (omega arith))
+
+  -- and does not wait
+  pub not-waiting : early s c ≡ 0 → s .marks (caller s c) .waiting ≡ false
+  unfolding running
+  not-waiting e =
+      let me : ℕ = caller s c in
+      let m : Marks = s .marks me in
+      let f = all3 (s .object me .live) (s .object me .process)
+      (not (m .suspended || m .waiting || m .terminated)) (early-none e .1) in
+      let u = none2 (m .suspended || m .waiting) (m .terminated) (not-is-true _ (f .2)) in
+      none2 (m .suspended) (m .waiting) (u .0) .1
 
   -- the caller that pays, and the one that refusal 4 marks
   pub payer : Objects (s .object) → early s c ≡ 0

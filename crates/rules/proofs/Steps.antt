@@ -82,7 +82,7 @@ unfolding paid toHouse spend withCash withHouse FreeObject FreeCap capLives empt
 takes-open s c h q = record { object = q .object; made = q .made; derived = q .derived; renamed = q .renamed }
 
 -- what 2, 3 and 4 leave: with 4 the caller is marked, else nothing changes
-stopped-by : (s : State) (c : Call) (P : State → Type 0)
+pub stopped-by : (s : State) (c : Call) (P : State → Type 0)
     → (early s c ≡ 4 → P (setTerminated s (caller s c) true)) → P s → P (stopped s c (early s c))
 unfolding stopped
 stopped-by s c P a b =

@@ -10,7 +10,7 @@ use Rattle.rules.specs.Call.{Call, Outcome, Choice, code}
 use Rattle.rules.specs.Refusals.{caller}
 use Rattle.rules.specs.Changes.{setTerminated}
 use Rattle.rules.specs.Rule.{paid, rule, isDone}
-use Rattle.rules.specs.Demand.{Words, FreshWords, Open, Allowed, Step, Legal, start}
+use Rattle.rules.specs.Demand.{Words, FreshWords, Open, Allowed, Step, Legal, start, run}
 use Rattle.rules.specs.Script.{lastFree}
 
 -- ---- every call keeps the store well formed, and the money total
@@ -61,3 +61,13 @@ AllWords (c ∷ l) = Words c × AllWords l
 unfoldable pub RunExists : Type 0
 RunExists = (supply : ℕ) (p : Password) → FreshWords supply p → (calls : List Call) → AllWords calls
     → (l : List Step) × (map (λ x. x .call) l ≡ calls) × Legal (start supply p) l
+
+-- ---- 02, CR 2: "A process with mail should not sleep."
+
+-- a process that waits has an empty box
+unfoldable pub Awake : State → Type 0
+Awake s = (o : ℕ) → s .marks o .waiting ≡ true → s .box o ≡ []
+
+-- so it is after every list of calls from a fresh store
+unfoldable pub MailWakes : Type 0
+MailWakes = (supply : ℕ) (p : Password) (l : List Step) → Awake (run (start supply p) l .store)

@@ -10,12 +10,14 @@ use lib.Dec.{eqb}
 use lib.ListN.{length}
 use Rattle.rules.specs.Store.{State, Password}
 use Rattle.rules.specs.Rights.{deleteCap, op}
-use Rattle.rules.specs.Call.{Call, Outcome}
+use Rattle.rules.specs.Call.{Outcome}
 use Rattle.rules.specs.Rule as Rule
 use Rattle.rules.specs.Ledger.{Ledger, book, opening}
 use Rattle.rules.specs.Demand as Rules
 use Rattle.rules.specs.Demand.{FreshWords, Allowed, Now, Step, Legal, Claims, Ended, start, doneAt, next, run}
-use Rattle.rules.proofs.Theorems.{demand-3}
+use Rattle.rules.specs.Theorems as Theorems
+use Rattle.rules.specs.Theorems.{Awake}
+use Rattle.rules.proofs.Theorems.{demand-3, mail-wakes}
 use Rattle.layout.specs.Layout as Layout
 use Rattle.layout.specs.View.{view}
 use Rattle.layout.specs.WellFormed.{Sized, WellFormed}
@@ -24,7 +26,7 @@ use Rattle.kernel_fresh.specs.Slices.{freshBytes, freshLinks, freshWords}
 use Rattle.call_steps.specs.Request.{answerOf, callOf}
 use Rattle.kernel_step.specs.Steps.{Steps, front}
 use Rattle.theorem_history.specs.History.{Store, lent, Event, callAt, Happens, Runs, lastStore, isDone, booked, after}
-use Rattle.theorem_history.specs.History.{Holds, Demand3}
+use Rattle.theorem_history.specs.History.{Demand3, MailWakes}
 
 -- what the store means
 abbrev means : Store → State
@@ -206,3 +208,9 @@ history supply p words old s F es h = record {
       let r : Runs s (front ++ e ∷ back) = subst (Runs s) is h in
       ended-after supply p words old s F front e (runs-front s front e back r) (runs-at s front e back r) o d;
 }
+
+-- none sleeps with mail
+pub mail-wakes-after : MailWakes
+unfolding MailWakes Theorems.MailWakes
+mail-wakes-after supply p words old s F es h = subst (λ (n : Now). Awake (n .store)) (run-after supply p words old s F es h)
+    (mail-wakes supply p (steps supply p words old s F es h))

@@ -1,4 +1,5 @@
--- Demand 3 about stores: the slices, as the contracts of `fresh` and of `call` leave them, call after call.
+-- Demand 3 about stores: the slices, as the contracts of `fresh` and of `call` leave them, call after call. And that no
+-- process with mail waits.
 use Prim.Native.Nat.{ℕ}
 use mathlib.Core.Path.{_≡_}
 use mathlib.Core.Bool.{Bool, true}
@@ -11,6 +12,7 @@ use Rattle.rules.specs.Rights.{deleteCap, op}
 use Rattle.rules.specs.Call.{Call}
 use Rattle.rules.specs.Ledger.{Ledger, book, opening}
 use Rattle.rules.specs.Demand.{FreshWords, Now, Claims, Ended}
+use Rattle.rules.specs.Theorems.{Awake}
 use Rattle.layout.specs.View.{view}
 use Rattle.kernel_fresh.specs.Fresh.{Fresh}
 use Rattle.call_steps.specs.declared.request.Request.{Request}
@@ -92,3 +94,12 @@ Demand3 =
     → Fresh supply p (old .bytes) (old .links) (old .words) (new .bytes) (new .links) (new .words) Code.done
     → (es : List Event) → Runs new es
     → Holds p new es
+
+-- 02, CR 2, "A process with mail should not sleep.": after every such list none does
+unfoldable pub MailWakes : Type 0
+MailWakes =
+    (supply : ℕ) (p : Password) → FreshWords supply p
+    → (old new : Store)
+    → Fresh supply p (old .bytes) (old .links) (old .words) (new .bytes) (new .links) (new .words) Code.done
+    → (es : List Event) → Runs new es
+    → Awake (after p new es .store)

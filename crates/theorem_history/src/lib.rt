@@ -1,1 +1,1 @@
-// Demand 3 about stores is a statement, in specs/, and its proof; this crate has no code.
+// Demand 3 about stores, and that no process with mail waits: statements, in specs/, and their proofs; this crate has no code.
