@@ -67,7 +67,6 @@ pub fn definitions() -> Option<String> {
     let names: Vec<&str> = others.iter().map(|example| example.name).collect();
     Some(format!(
         "-- Scripts answered by the reference; made by `script-table`, not edited by hand.\n\
-         use Prim.Native.Nat.{{ℕ}}\n\
          use mathlib.Core.List.{{List, [], _∷_}}\n\
          use Rattle.rules.specs.Script.{{Example}}\n\n\
          {}\n\

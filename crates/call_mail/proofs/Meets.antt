@@ -25,7 +25,7 @@ use Rattle.layout.specs.WellFormed.{Plain}
 use Rattle.layout.proofs.Shown.{process-yes, process-is, process-lives, process-flag, cap-object, cash-here, box-here}
 use Rattle.layout.proofs.Lengths.{box-length}
 use Rattle.call_steps.specs.Run.{Process, Held, MeetsPlain, over, handedOver}
-use Rattle.call_steps.proofs.Meeting.{none, takes, DoesPlain, plain-settled}
+use Rattle.call_steps.proofs.Meeting.{takes, DoesPlain, plain-settled}
 use Rattle.call_steps.proofs.Holding.{target-of}
 use Rattle.call_mail.specs.Runs.{messageSlot, SendAsks, sendStop, sentBytes, sentWords, sendRun}
 use Rattle.call_mail.specs.Runs.{oldest, oldestBytes, receivedBytes, receivedWords, ReceiveAsks, receiveStop}

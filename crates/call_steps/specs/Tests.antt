@@ -8,7 +8,6 @@ use lib.ListN.{getD}
 use Rattle.rules.specs.Limit as Limit
 use Rattle.rules.specs.Slots.{find}
 use Rattle.rules.specs.Store.{Name, Password, State, sameName, samePassword}
-use Rattle.layout.specs.Layout as Layout
 use Rattle.layout.specs.Rows.{suspendedOf, waitingOf, terminatedOf}
 use Rattle.layout.specs.View.{isSet}
 use Rattle.layout.specs.Sizes.{Slot}

@@ -8,7 +8,6 @@ ghost use Rattle.layout.specs.Layout;
 ghost use Rattle.call_steps.specs.Tests.{group, cellIs, SameFrom};
 use layout::P1;
 use layout::SERIAL;
-use values::limit::MAX_CAPS;
 use values::limit::MAX_OBJECTS;
 use values::limit::MAX_SERIAL;
 

@@ -1,6 +1,6 @@
 -- Where an object's bytes stand in the cells, and the own parts of read and write, exactly. The slices are those that
 -- the fee left; `k` is the slot of the capability presented.
-use Prim.Native.Nat.{ℕ, zero, suc, _+_, _*_, _-_, _/_, _%_, _≤_}
+use Prim.Native.Nat.{ℕ, _+_, _*_, _-_, _/_, _%_, _≤_}
 use mathlib.Core.Path.{_≡_}
 use mathlib.Core.Bool.{not}
 use mathlib.Core.List.{List, [], _∷_}

@@ -1,6 +1,6 @@
 -- What the driver's turns keep of where the program stands.
 use Prim.Native.Nat.{ℕ, _+_, _-_, _*_, _≤_, _<_}
-use mathlib.Core.Path.{_≡_, refl, sym, ap, _∙_, subst}
+use mathlib.Core.Path.{_≡_, sym, ap, _∙_, subst}
 use mathlib.Core.Bool.{true, false, true≢false}
 use mathlib.Core.List.{List, [], _++_, append-assoc, append-nil}
 use native.Mathlib.Omega.{arith}
@@ -8,10 +8,10 @@ use lib.ListN.{length, take, drop, length-drop, length-append, drop-of-length-le
 use lib.Seq.{length-take-le, take-all, take-at, drop-drop}
 use Rattle.script_text.specs.Pasted.{pasted, Wrote}
 use Rattle.script_play.specs.Plays.{Working}
-use Rattle.script_driver.specs.Turns.{HELD, ANSWER, At, Feeds}
+use Rattle.script_driver.specs.Turns.{At, Feeds}
 use Rattle.script_driver.specs.Stores.{Store, stores}
 use Rattle.script_driver.specs.Contract as Contract
-use Rattle.script_driver.specs.Contract.{LAST, ROOM, stageOf, heldIn, Feeding, FeedAsks, FinishAsks}
+use Rattle.script_driver.specs.Contract.{LAST, stageOf, heldIn, Feeding, FeedAsks, FinishAsks}
 use Rattle.script_driver.specs.declared.Run.{Run}
 use Rattle.script_driver.specs.declared.Fed.{Fed}
 use Rattle.script_driver.specs.Parts.{runOf, fedOf}

@@ -5,7 +5,7 @@ use mathlib.Core.Logic.{_≢_}
 use mathlib.Core.Bool.{Bool, true, false, not, _&&_, _||_, true≢false}
 use mathlib.Core.List.{List, [], _∷_, _++_}
 use native.Mathlib.Omega.{arith}
-use lib.Dec.{eqb, leb, ltb}
+use lib.Dec.{leb, ltb}
 use borrow.Author.Tests.{eqb-false, leb-true, ltb-true, ltb-false}
 use Rattle.rules.specs.Store.{Marks, State, objectNamed}
 use Rattle.rules.specs.Valid.{Objects}

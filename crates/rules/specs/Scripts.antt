@@ -1,5 +1,4 @@
 -- Scripts answered by the reference; made by `script-table`, not edited by hand.
-use Prim.Native.Nat.{ℕ}
 use mathlib.Core.List.{List, [], _∷_}
 use Rattle.rules.specs.Script.{Example}
 

@@ -1,7 +1,7 @@
 -- A script writes one text, and 01's script writes what 01 says.
 use Prim.Native.Nat.{ℕ, zero, suc, _≤_}
 use mathlib.Core.Path.{_≡_, refl, sym, ap, _∙_}
-use mathlib.Core.Bool.{Bool, true, false, _&&_}
+use mathlib.Core.Bool.{Bool, true, _&&_}
 use mathlib.Core.List.{List, [], _∷_}
 use native.Mathlib.Omega.{arith}
 use lib.Dec.{leb}
@@ -11,10 +11,10 @@ use Rattle.rules.specs.Script as Script
 use Rattle.rules.specs.Script.{example}
 use Rattle.rules.proofs.Tests.{all2}
 use Rattle.script_text.specs.Numeral as Numeral
-use Rattle.script_text.specs.Numeral.{spaced, Says}
+use Rattle.script_text.specs.Numeral.{spaced}
 use Rattle.script_text.specs.Lines as Lines
 use Rattle.script_text.specs.Lines.{linesOf}
-use Rattle.script_text.specs.Scan.{Means, good, bad}
+use Rattle.script_text.specs.Scan.{Means, good}
 use Rattle.script_text.proofs.Sayings.{means-same}
 use Rattle.script_answers.specs.Output as Output
 use Rattle.script_answers.specs.Output.{output, MeanAll, none, more, Writes}

@@ -1,12 +1,11 @@
 -- The four totals, each of which fits, and the line that they make.
-use Prim.Native.Nat.{ℕ, _+_, _*_, _≤_}
-use mathlib.Core.Path.{_≡_, refl, sym, ap, _∙_, subst}
+use Prim.Native.Nat.{ℕ, _+_, _≤_}
+use mathlib.Core.Path.{_≡_, subst}
 use mathlib.Core.List.{List, [], _∷_, _++_}
 use native.Mathlib.Omega.{arith}
 use lib.ListN.{length}
 use Rattle.rules.specs.Store.{State, allCash, allMasters, allBoxes, moneyIn}
 use Rattle.rules.specs.Script.{totals}
-use Rattle.layout.specs.Fields.{TotalFits}
 use Rattle.script_text.specs.Numeral.{after}
 use Rattle.script_text.specs.Pasted.{Wrote, Put}
 use Rattle.script_text.proofs.Pasting.{wrote-then}

@@ -6,10 +6,10 @@ use mathlib.Core.List.{List, [], _∷_, _++_, append-assoc, append-nil}
 use native.Mathlib.Omega.{arith}
 use native.Mathlib.Numerals.{add-one}
 use lib.Dec.{leb}
-use lib.ListN.{length, take, drop, length-take, length-append, length-drop}
+use lib.ListN.{length, take, drop, length-take, length-drop}
 use borrow.Author.Tests.{leb-true, leb-false}
 use Rattle.rules.proofs.Tests.{by-bool}
-use lib.Seq.{take-all, take-append-le, length-take-le}
+use lib.Seq.{take-all, length-take-le}
 use Rattle.layout.specs.WellFormed.{WellFormed}
 use Rattle.script_text.specs.Lines.{part, EndsLine}
 use Rattle.layout.specs.View.{view}
@@ -23,13 +23,11 @@ use Rattle.script_play.specs.Starts.{Starts}
 use Rattle.script_driver.specs.Turns.{opening, closed, playing, At, Line, Closes, absent, refused, totals, HELD, cut, Feeds, ANSWER, Ends, none, last}
 use Rattle.script_driver.specs.Stores.{Store, Formed, stores}
 use Rattle.script_driver.specs.Contract as Contract
-use Rattle.script_driver.specs.Contract.{LAST, stageBy, stageOf, Stands, Feeding}
-use Rattle.script_driver.proofs.Cutting.{cut-more, cut-none, cut-twice, means-cut}
+use Rattle.script_driver.specs.Contract.{LAST, stageBy, stageOf, Feeding}
 use Rattle.script_driver.proofs.Bridging.{first-line, closed-line, later-line}
 use Rattle.script_driver.proofs.Looping.{Reached, reached-none, reached-line, reached-all, reached-full, reached-held, line-whole}
 use Rattle.script_driver.specs.declared.Run.{Run}
-use Rattle.script_driver.specs.declared.Fed.{Fed}
-use Rattle.script_driver.specs.Parts.{store, runOf, fedOf, Holds, FirstLine, OneLine, EndedLine, EndAsks, EndPut}
+use Rattle.script_driver.specs.Parts.{store, runOf, Holds, FirstLine, OneLine, EndedLine, EndAsks, EndPut}
 
 -- ---- stages
 

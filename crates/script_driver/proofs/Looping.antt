@@ -1,17 +1,16 @@
 -- The laws of a loop over the lines of a window: how far it came, and what a line, the window's end and the want of room add.
-use Prim.Native.Nat.{ℕ, zero, suc, _+_, _-_, _≤_, _<_}
-use mathlib.Core.Path.{_≡_, refl, sym, ap, _∙_, subst}
-use mathlib.Core.Logic.{_≢_}
+use Prim.Native.Nat.{ℕ, suc, _+_, _-_, _≤_, _<_}
+use mathlib.Core.Path.{_≡_, sym, ap, _∙_, subst}
 use mathlib.Core.List.{List, [], _∷_, _++_, append-assoc, append-nil}
 use native.Mathlib.Omega.{arith}
 use native.Mathlib.Nat.{add-zero, sub-zero}
-use lib.ListN.{length, take, drop, length-append, length-drop, length-take, drop-of-length-le}
+use lib.ListN.{length, drop, length-append, length-drop, drop-of-length-le}
 use lib.Seq.{take-all, length-take-le, drop-drop}
 use Rattle.script_text.specs.Lines.{linesOf, part, EndsLine}
 use Rattle.rules.proofs.Tests.{by-eq}
 use Rattle.script_driver.specs.Machine.{Machine}
 use Rattle.script_driver.specs.Turns.{At, Line, ANSWER, cut, Feeds, all, full, held, ended}
-use Rattle.script_driver.proofs.Cutting.{Plain, empty, byte, cut-more, cut-none, cut-twice, cut-means, means-cut, Ended, first-ended, one-line}
+use Rattle.script_driver.proofs.Cutting.{Plain, empty, byte, cut-more, cut-none, cut-twice, means-cut, Ended, first-ended, one-line}
 
 -- ---- bytes of one line
 

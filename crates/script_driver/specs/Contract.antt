@@ -6,7 +6,7 @@ use mathlib.Core.Bool.{Bool, true, false}
 use mathlib.Core.List.{List, [], _++_}
 use lib.ListN.{length, take, drop}
 use Rattle.script_text.specs.Pasted.{Wrote}
-use Rattle.script_driver.specs.Turns.{Stage, opening, closed, playing, At, HELD, Feeds, Ends}
+use Rattle.script_driver.specs.Turns.{opening, closed, playing, At, HELD, Feeds, Ends}
 use Rattle.script_driver.specs.Stores.{Store, Formed, stores}
 
 -- line numbers have 64 bits

@@ -1,9 +1,9 @@
 -- The contracts of the parts of a turn and of the end of the input.
-use Prim.Native.Nat.{ℕ, zero, suc, _+_, _-_, _≤_}
+use Prim.Native.Nat.{ℕ, _+_, _≤_}
 use mathlib.Core.Path.{_≡_}
 use mathlib.Core.Bool.{Bool}
 use mathlib.Core.List.{List, [], _++_}
-use lib.ListN.{length, take, drop}
+use lib.ListN.{length, take}
 use Rattle.script_text.specs.Lines.{mostNumbers}
 use Rattle.script_text.specs.Pasted.{Wrote}
 use Rattle.script_answers.specs.Room.{TOTALS}

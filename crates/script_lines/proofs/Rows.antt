@@ -6,7 +6,6 @@ use native.Mathlib.Omega.{arith}
 use lib.ListN.{length, getD, List·getD-map, List·getD-eq-default}
 use Rattle.rules.specs.Rights.{Op, unknown, op}
 use Rattle.rules.specs.Fields.{Field, fields, placeFrom, place}
-use Rattle.rules.specs.Script.{numberAt}
 use Rattle.script_lines.specs.Table.{calls, places, lengths}
 
 place-at : (f : Field) (n : ℕ) → getD (places f) n 0 ≡ place (op n) f

@@ -1,5 +1,4 @@
 // The text that comes with a line: the bytes of write and send.
-ghost use mathlib.Core.Path.{_≡_};
 ghost use lib.ListN.{drop};
 ghost use Rattle.rules.specs.Rights.{op};
 ghost use Rattle.rules.specs.Script.{nth, callOf};

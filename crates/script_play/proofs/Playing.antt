@@ -1,14 +1,14 @@
 -- A line's call is what the rules' call of its numbers is, and its answer's line is theirs.
-use Prim.Native.Nat.{ℕ, _+_, _≤_}
+use Prim.Native.Nat.{ℕ}
 use mathlib.Core.Path.{_≡_, refl, sym, ap, subst, _∙_}
-use mathlib.Core.Bool.{true, false, true≢false, false≢true}
+use mathlib.Core.Bool.{true, false, true≢false}
 use mathlib.Core.List.{List, [], _∷_}
 use native.Mathlib.Omega.{arith}
 use lib.ListN.{length, take, length-take}
 use Rattle.rules.specs.Code as Code
 use Rattle.rules.specs.Store.{State}
 use Rattle.rules.specs.Rights.{Op, op}
-use Rattle.rules.specs.Call.{Call, Outcome, Choice, code}
+use Rattle.rules.specs.Call.{Call, Choice, code}
 use Rattle.rules.specs.Rule.{rule}
 use Rattle.rules.specs.Demand.{Allowed}
 use Rattle.rules.specs.Script.{nth, lineFits, answerOf}
@@ -20,14 +20,14 @@ use Rattle.call_steps.specs.declared.request.Request.{Request}
 use Rattle.call_steps.specs.declared.request.Reply.{Reply}
 use Rattle.call_steps.specs.Request.{callOf}
 use Rattle.call_steps.specs.Request.{answerOf as replyAnswer}
-use Rattle.kernel_step.specs.Slices.{Slices, slices, callOn}
+use Rattle.kernel_step.specs.Slices.{Slices, slices}
 use Rattle.kernel_step.specs.Run.{stepRun}
 use Rattle.kernel_step.specs.Steps.{Stepped}
 use Rattle.script_text.specs.Numeral.{lineOf}
 use Rattle.script_text.specs.Pasted.{Put}
 use Rattle.script_answers.specs.Room.{ANSWER, REFUSAL}
 use Rattle.script_answers.specs.Pushed.{BytesCounted}
-use Rattle.script_play.specs.Plays.{lineWith, Unchanged, Played}
+use Rattle.script_play.specs.Plays.{lineWith, Played}
 
 -- ---- the rules of a line
 

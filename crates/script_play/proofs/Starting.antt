@@ -1,18 +1,16 @@
 -- Line one's numbers make the fresh store, or nothing.
 use Prim.Native.Nat.{ℕ}
-use mathlib.Core.Path.{_≡_, refl, sym, ap, subst, _∙_}
+use mathlib.Core.Path.{_≡_, refl, sym, ap, _∙_}
 use mathlib.Core.Bool.{true, false, true≢false, false≢true}
 use mathlib.Core.List.{List, [], _∷_}
 use Rattle.rules.specs.Store.{Password}
 use Rattle.rules.specs.Script.{nth}
-use Rattle.layout.specs.View.{view}
-use Rattle.layout.specs.WellFormed.{Sized, WellFormed}
+use Rattle.layout.specs.WellFormed.{Sized}
 use Rattle.values.specs.Words.{passwordOf}
 use Rattle.kernel_fresh.specs.Slices.{freshBytes, freshLinks, freshWords}
 use Rattle.kernel_fresh.specs.Fresh.{Fresh}
 use Rattle.script_lines.specs.declared.first.First.{First}
 use Rattle.script_lines.specs.First.{FirstIs}
-use Rattle.script_play.specs.Plays.{Unchanged}
 use Rattle.script_play.specs.Starts.{passwordIn, Begun, Made}
 
 -- the password that line one says

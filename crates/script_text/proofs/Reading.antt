@@ -1,10 +1,10 @@
 -- A line read number after number: what is read so far, and what the rest says.
 use Prim.Native.Nat.{ℕ, zero, suc, _+_, _≤_, _<_}
 use mathlib.Core.Path.{_≡_, refl, sym, ap, _∙_, subst}
-use mathlib.Core.Bool.{Bool, true, false, false≢true}
+use mathlib.Core.Bool.{true, false, false≢true}
 use mathlib.Core.List.{List, [], _∷_, _++_, append-assoc}
 use native.Mathlib.Omega.{arith}
-use lib.ListN.{length, getD, take, drop, length-append}
+use lib.ListN.{length, getD, length-append}
 use Rattle.script_text.specs.Numeral.{numeral, after, spaced, Says}
 use Rattle.script_text.specs.Scan.{Scan, found, scanOn, scan}
 use Rattle.script_text.proofs.Scanning.{scan-numeral, scan-space, scan-end, Leads, scan-leads}

@@ -1,15 +1,14 @@
 -- A scan finds a number exactly where one stands, and so a line is read exactly where it says numbers.
-use Prim.Native.Nat.{ℕ, zero, suc, _+_, _-_, _*_, _≤_, _<_}
+use Prim.Native.Nat.{ℕ, _+_, _-_, _*_, _≤_, _<_}
 use mathlib.Core.Path.{_≡_, refl, sym, ap, _∙_, subst}
 use mathlib.Core.Logic.{_≢_}
-use mathlib.Core.Bool.{Bool, true, false, not, _&&_, true≢false, false≢true}
-use mathlib.Core.List.{List, [], _∷_, _++_, append-assoc, append-nil}
+use mathlib.Core.Bool.{true, false, not, _&&_, false≢true}
+use mathlib.Core.List.{List, [], _∷_, _++_, append-assoc}
 use native.Mathlib.Omega.{arith}
 use lib.Dec.{eqb, leb}
-use lib.ListN.{length, getD, take, drop, length-append}
 use borrow.Author.Tests.{leb-true, le-leb, eqb-true, eqb-false, eq-eqb, ne-eqb}
 use Rattle.rules.proofs.Tests.{by-bool, pick-yes, pick-not, both-true, all2, not-is-true}
-use Rattle.script_text.specs.Numeral.{numeral, after, spaced, Says}
+use Rattle.script_text.specs.Numeral.{numeral}
 use Rattle.script_text.specs.Scan.{isDigit, extends, Scan, failed, found, scanOn, scan}
 use Rattle.script_text.proofs.Numerals.{numeral-digit, numeral-more, numeral-by}
 

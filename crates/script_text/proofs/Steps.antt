@@ -6,7 +6,7 @@ use mathlib.Core.Bool.{Bool, true, false, not, _&&_, true≢false, false≢true}
 use mathlib.Core.List.{List, [], _∷_, _++_}
 use native.Mathlib.Omega.{arith}
 use native.Mathlib.Numerals.{add-one}
-use lib.Dec.{eqb, leb}
+use lib.Dec.{leb}
 use lib.Arith.{lt-of-le-ne}
 use lib.ListN.{length, getD, take, drop, set, drop-of-length-le, length-set}
 use lib.Seq.{drop-cons, drop-set-lt, drop-drop, take-suc-set, length-take-le}
@@ -14,7 +14,7 @@ use borrow.Author.Tests.{eq-eqb, ne-eqb, le-leb, lt-leb}
 use Rattle.script_text.specs.Scan.{isDigit, extends, Scan, failed, found, scanOn, scan, NoDigit, Near, ScanOnIs, NumberAt, ReadIs}
 use Rattle.script_text.specs.Numeral.{Says}
 use Rattle.script_text.specs.declared.read.Number.{Number}
-use Rattle.script_text.proofs.Scanning.{Digit, digit, Extends, extending, scan-space, scan-more, scan-stop, scan-end}
+use Rattle.script_text.proofs.Scanning.{Digit, digit, extending, scan-space, scan-more, scan-stop, scan-end}
 use Rattle.script_text.proofs.Scanning.{is-digit, scan-digit, scan-other, scan-nothing, scan-leads}
 use Rattle.script_text.proofs.Reading.{Reading, reading-none, reading-more, reading-last, reading-bad, reading-full}
 

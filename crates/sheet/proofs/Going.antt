@@ -1,14 +1,13 @@
 -- What the driver's turns keep of where the program stands.
-use Prim.Native.Nat.{ℕ, _+_, _-_, _*_, _≤_, _<_, min}
+use Prim.Native.Nat.{ℕ, _+_, _-_, _*_, _≤_}
 use mathlib.Core.Path.{_≡_, _∙_}
 use mathlib.Core.List.{List}
 use native.Mathlib.Omega.{arith}
-use lib.ListN.{length, take, drop, length-drop, length-take}
+use lib.ListN.{length, take, drop, length-drop}
 use lib.Seq.{length-take-le}
 use Rattle.script_play.specs.Plays.{Working}
 use Rattle.script_driver.specs.Stores.{Store}
-use Rattle.script_driver.specs.Contract as Contract
-use Rattle.script_driver.specs.Contract.{LAST, Feeding, FeedAsks}
+use Rattle.script_driver.specs.Contract.{LAST, Feeding}
 use Rattle.script_driver.specs.declared.Run.{Run}
 use Rattle.script_driver.specs.declared.Fed.{Fed}
 use Rattle.script_driver.specs.Parts.{runOf, fedOf}

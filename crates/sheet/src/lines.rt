@@ -2,7 +2,7 @@
 ghost use Prim.Native.Nat.{_+_, min};
 ghost use mathlib.Core.Path.{_≡_};
 ghost use Rattle.script_driver.specs.Parts.{store};
-ghost use Rattle.sheet.specs.Runs.{LineAsks, RunDone, StandDone};
+ghost use Rattle.sheet.specs.Runs.{LineAsks, StandDone};
 use crate::state::Stand;
 use script_answers::answer::ANSWER;
 use script_driver::Run;

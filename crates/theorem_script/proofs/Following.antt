@@ -1,6 +1,6 @@
 -- Where one machine follows another, what a script writes on the one it writes on the other.
 use Prim.Native.Nat.{ℕ, suc}
-use mathlib.Core.List.{List, []}
+use mathlib.Core.List.{List}
 use native.Mathlib.Omega.{arith}
 use Rattle.script_text.specs.Scan.{Means}
 use Rattle.script_text.specs.Scan as Scan

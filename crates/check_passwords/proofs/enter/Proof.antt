@@ -1,6 +1,6 @@
 -- `enter` searches the chain at the place of slot i, and puts slot i at its head.
 use native.Mathlib.Omega.{arith}
-use mathlib.Core.Path.{_≡_, sym, ap₂, _∙_}
+use mathlib.Core.Path.{sym, ap₂, _∙_}
 use borrow.Author.Needs.{needs}
 use Rattle.check_rows.proofs.Chaining.{slot-entered, chain-starts, none-above}
 use Rattle.check_passwords.specs.Passwords.{SamePassword, bucket}

@@ -1,6 +1,5 @@
 -- `end` finishes the script where room was made.
 use mathlib.Core.Path.{refl, sym}
-use native.Mathlib.Omega.{arith}
 use lib.Seq.{length-take-le}
 use Rattle.hall.proofs.Going.{finish-asked}
 use borrow.Author.Needs.{needs}

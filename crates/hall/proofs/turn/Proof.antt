@@ -1,7 +1,6 @@
 -- `turn` feeds what was read, or ends the run.
-use mathlib.Core.Path.{refl, sym, _∙_}
+use mathlib.Core.Path.{refl, _∙_}
 use native.Mathlib.Omega.{arith}
-use lib.Seq.{length-take-le}
 use Rattle.hall.proofs.Going.{turned, turned-end}
 use borrow.Author.Needs.{needs}
 use Rattle.hall.proofs.turn.Statement.{statement}

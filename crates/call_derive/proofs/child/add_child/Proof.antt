@@ -1,5 +1,4 @@
 -- `add_child` makes the record and links it before the first child.
-use mathlib.Core.Path.{refl}
 use Rattle.call_grow.specs.Made.{capOf}
 use Rattle.call_derive.proofs.Stops.{added}
 use native.Mathlib.Omega.{arith}

@@ -9,7 +9,7 @@ use borrow.Fn.PlainCycle.{Measures, is, falls, and}
 use lib.ListN.{length, set, length-set}
 use Rattle.layout.specs.Layout as Layout
 use Rattle.layout.specs.Rows.{parentOf, moneyOf}
-use Rattle.call_purse.specs.Climb.{climbOf, climbStops, climbMoved, stops as stopsAt, moves as movesOf}
+use Rattle.call_purse.specs.Climb.{climbOf, climbStops, stops as stopsAt, moves as movesOf}
 use Rattle.call_purse.proofs.Climbing.{Step, step-of, stops-none, stops-next, moved-top, moved-step, moved-two}
 use Rattle.call_purse.proofs.climb.climb_moves.Reads as moves-all
 use Rattle.call_purse.proofs.climb.climb_moves.Kinds as kinds

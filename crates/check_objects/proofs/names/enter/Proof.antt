@@ -1,6 +1,6 @@
 -- `enter` searches the chain at the place of the name in slot o, and puts slot o at its head; a free slot it passes over.
 use native.Mathlib.Omega.{arith}
-use mathlib.Core.Path.{_≡_, sym, ap₂, _∙_}
+use mathlib.Core.Path.{sym, ap₂, _∙_}
 use borrow.Author.Needs.{needs}
 use Rattle.check_rows.proofs.Chaining.{slot-entered, slot-passed, chain-starts, none-above}
 use Rattle.layout.proofs.Deciding.{yes-it}

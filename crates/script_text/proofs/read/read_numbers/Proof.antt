@@ -1,6 +1,5 @@
 -- `read_numbers` has read the numbers before its place, and knows what the rest may say.
 use Prim.Native.Nat.{_-_}
-use mathlib.Core.Path.{_∙_}
 use native.Mathlib.Omega.{arith}
 use borrow.Author.Needs.{needs}
 use lib.ListN.{length, length-set}
