@@ -4,7 +4,6 @@ use Prim.Native.Nat.{ℕ}
 use mathlib.Core.Path.{_≡_, refl, sym, ap, _∙_, subst}
 use mathlib.Core.Bool.{true, false, false≢true}
 use mathlib.Core.List.{List, [], _∷_}
-use lib.Dec.{eqb}
 use Rattle.rules.specs.Code as Code
 use Rattle.rules.specs.Store.{Object, Message, State, noObject}
 use Rattle.rules.specs.Rights.{Op, makeObj, read, write, capInfo, deriveCap, deleteCap, renameObj, withdraw}
@@ -17,11 +16,10 @@ use Rattle.rules.specs.Changes.{endWhere, newObject, endObject}
 use Rattle.rules.specs.Calls.{readDoes, writeDoes, capInfoDoes, deriveCapDoes, deleted, emptied, renameObjDoes}
 use Rattle.rules.specs.Calls.{withdrawDoes, depositDoes, suspendDoes, resumeDoes, applyLockDoes, sendDoes, receiveDoes}
 use Rattle.rules.specs.Calls.{reviveDoes, does}
-use Rattle.rules.specs.Rule.{stopped, paid, rule}
-use Rattle.rules.proofs.Tests.{pick-by}
+use Rattle.rules.specs.Rule.{paid, rule}
 use Rattle.rules.proofs.Slots.{at-by}
 use Rattle.rules.proofs.Ready.{slotOf}
-use Rattle.rules.proofs.Outcomes.{rule-by}
+use Rattle.rules.proofs.Outcomes.{stopped-by, rule-by}
 use Rattle.rules.proofs.Keeping.{wait-by}
 use Rattle.rules.proofs.Deleting.{delete-by}
 use Rattle.layout.specs.Rows.{masterOf}
@@ -83,17 +81,13 @@ module _ (s : State) (c : Call) (me k : ℕ) (h : Choice) (q : ℕ) (z : s .obje
   does-new revive a = none a
   does-new unknown a = none a
 
-stopped-same : (s : State) (c : Call) (n : ℕ) → stopped s c n .object ≡ s .object
-unfolding stopped setTerminated withMarks
-stopped-same s c n =
-    pick-by (λ (t : State). t .object ≡ s .object) (eqb n Code.cannotPay) _ s (λ _. refl) (λ _. refl)
-
 rule-new : (s : State) (c : Call) (h : Choice) (q : ℕ) → s .object q .live ≡ false
     → rule s c h .after .object q .live ≡ true → op (c .number) ≡ makeObj
-unfolding paid toHouse spend withCash withHouse
+unfolding paid toHouse spend withCash withHouse setTerminated withMarks
 rule-new s c h q z = rule-by s c h (λ r. r .after .object q .live ≡ true → op (c .number) ≡ makeObj)
-    (λ n a. absurd (false≢true
-    (sym z ∙ sym (ap (λ (f : ℕ → Object). f q .live) (stopped-same s c (early s c))) ∙ a)))
+    (λ n. stopped-by s c (λ (t : State). t .object q .live ≡ true → op (c .number) ≡ makeObj)
+    (λ _ a. absurd (false≢true (sym z ∙ a)))
+    (λ a. absurd (false≢true (sym z ∙ a))))
     (λ e n a. absurd (false≢true (sym z ∙ a)))
     (λ e f a. does-new (paid s c) c (caller s c) (slotOf s c) h q z (op (c .number)) a)
 

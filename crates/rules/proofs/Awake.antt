@@ -20,10 +20,9 @@ use Rattle.rules.specs.Demand.{Now, Step, next, run}
 use Rattle.rules.specs.Theorems.{Awake}
 use Rattle.rules.proofs.Slots.{at-by, at-both}
 use Rattle.rules.proofs.Ready.{not-waiting, slotOf}
-use Rattle.rules.proofs.Outcomes.{rule-by}
+use Rattle.rules.proofs.Outcomes.{stopped-by, rule-by}
 use Rattle.rules.proofs.Keeping.{wait-by}
 use Rattle.rules.proofs.Deleting.{delete-by}
-use Rattle.rules.proofs.Steps.{stopped-by}
 
 -- ---- the marks and the box of one slot change
 

@@ -6,9 +6,7 @@ use mathlib.Core.Path.{_≡_, refl, sym, ap, _∙_, subst}
 use mathlib.Core.Logic.{_≢_}
 use mathlib.Core.Bool.{Bool, true, false, true≢false}
 use mathlib.Core.List.{List, [], _∷_}
-use lib.Dec.{eqb}
 use lib.ListN.{replicate}
-use Rattle.rules.specs.Code as Code
 use Rattle.rules.specs.Slots.{at}
 use Rattle.rules.specs.Store.{Object, Message, State, noObject}
 use Rattle.rules.specs.Rights.{Op, makeObj, read, write, capInfo, deriveCap, deleteCap, renameObj, withdraw}
@@ -23,10 +21,10 @@ use Rattle.rules.specs.Calls.{deleted, emptied, renameObjDoes, withdrawD
 use Rattle.rules.specs.Calls.{applyLockDoes, sendDoes, receiveDoes, reviveDoes, does}
 use Rattle.rules.specs.Rule.{stopped, paid, late, rule, isDone}
 use Rattle.rules.specs.Demand.{FreeObject, Open}
-use Rattle.rules.proofs.Tests.{by-eq, pick-by}
+use Rattle.rules.proofs.Tests.{by-eq}
 use Rattle.rules.proofs.Slots.{at-here, at-else}
 use Rattle.rules.proofs.Ready.{slotOf}
-use Rattle.rules.proofs.Outcomes.{done-out, rule-by}
+use Rattle.rules.proofs.Outcomes.{stopped-by, done-out, rule-by}
 use Rattle.rules.proofs.Answers.{refused-not, is-done}
 use Rattle.rules.proofs.Keeping.{wait-by}
 use Rattle.rules.proofs.Deleting.{delete-by}
@@ -157,10 +155,8 @@ module _ (s : State) (c : Call) (q : ℕ) where
   ]
 
   stopped-bytes : Bytes s q (s .bytes q) (stopped s c (early s c))
-  unfolding stopped setTerminated withMarks
-  stopped-bytes = pick-by (Bytes s q (s .bytes q)) (eqb (early s c) Code.cannotPay) _ s
-      (λ _. same s q _ refl refl)
-      (λ _. same s q s refl refl)
+  unfolding setTerminated withMarks
+  stopped-bytes = stopped-by s c (Bytes s q (s .bytes q)) (λ _. same s q _ refl refl) (same s q _ refl refl)
 
   paid-bytes : Bytes s q (s .bytes q) (paid s c)
   unfolding paid toHouse spend withCash withHouse

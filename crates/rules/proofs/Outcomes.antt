@@ -2,18 +2,26 @@
 use Prim.Native.Nat.{ℕ}
 use mathlib.Core.Path.{_≡_, sym, _∙_, subst}
 use mathlib.Core.Logic.{_≢_}
+use mathlib.Core.Bool.{true}
 use lib.Dec.{eqb}
-use borrow.Author.Tests.{eq-eqb, ne-eqb}
+use borrow.Author.Tests.{eqb-true, eq-eqb, ne-eqb}
 use Rattle.rules.specs.Store.{State, objectNamed}
 use Rattle.rules.specs.Rights.{op}
 use Rattle.rules.specs.Call.{Call, Outcome, Choice, code}
 use Rattle.rules.specs.Refusals.{caller, early}
 use Rattle.rules.specs.Update.{withHouse, withCash}
-use Rattle.rules.specs.Changes.{spend, toHouse}
+use Rattle.rules.specs.Changes.{spend, toHouse, setTerminated}
 use Rattle.rules.specs.Calls.{does}
 use Rattle.rules.specs.Rule.{stopped, paid, late, onPaid, rule}
-use Rattle.rules.proofs.Tests.{by-eq, pick-yes, pick-not}
+use Rattle.rules.proofs.Tests.{by-eq, pick-yes, pick-not, pick-by}
 use Rattle.rules.proofs.Ready.{slotOf}
+
+-- what 2, 3 and 4 leave: with 4 the caller is marked, else nothing changes
+pub stopped-by : (s : State) (c : Call) (P : State → Type 0)
+    → (early s c ≡ 4 → P (setTerminated s (caller s c) true)) → P s → P (stopped s c (early s c))
+unfolding stopped
+stopped-by s c P a b =
+    pick-by P (eqb (early s c) 4) (setTerminated s (caller s c) true) s (λ e. a (eqb-true _ _ e)) (λ _. b)
 
 module _ (s : State) (c : Call) where
   -- refused by 2 to 4

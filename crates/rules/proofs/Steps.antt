@@ -4,7 +4,7 @@ use mathlib.Core.Path.{_≡_, refl, sym, ap, ap₂, _∙_, subst}
 use mathlib.Core.Logic.{_≢_}
 use mathlib.Core.Bool.{true, false, _&&_, true≢false}
 use lib.Dec.{eqb}
-use borrow.Author.Tests.{eqb-true, ne-eqb}
+use borrow.Author.Tests.{ne-eqb}
 use Rattle.rules.specs.Store.{State, capLives}
 use Rattle.rules.specs.Valid.{Formed}
 use Rattle.rules.specs.Rights.{Op, makeObj, read, write, capInfo, deriveCap, deleteCap, renameObj, withdraw}
@@ -19,12 +19,12 @@ use Rattle.rules.specs.Calls.{emptied}
 use Rattle.rules.specs.Rule.{stopped, paid, late, rule, isDone}
 use Rattle.rules.specs.Ledger.{Ledger, found, newLine, entry, book}
 use Rattle.rules.specs.Demand.{FreeObject, FreeCap, Open, Allowed}
-use Rattle.rules.proofs.Tests.{by-bool, pick-not, pick-by}
+use Rattle.rules.proofs.Tests.{by-bool, pick-not}
 use Rattle.rules.proofs.Sound.{Kept, kept-same, kept-then}
 use Rattle.rules.proofs.Link.{Linking, num-some}
 use Rattle.rules.proofs.Presenting.{found-num}
 use Rattle.rules.proofs.Ready.{payer, stopper, slotOf, ready}
-use Rattle.rules.proofs.Outcomes.{done-out, rule-by}
+use Rattle.rules.proofs.Outcomes.{stopped-by, done-out, rule-by}
 use Rattle.rules.proofs.Keeping.{keep-fee, keep-mark}
 use Rattle.rules.proofs.Answers.{refused-not, is-done}
 use Rattle.rules.proofs.Done.{Takes, keeps, links}
@@ -80,13 +80,6 @@ pub takes-open : (s : State) (c : Call) (h : Choice) → Takes (paid s c) c (cal
 unfolding paid toHouse spend withCash withHouse FreeObject FreeCap capLives emptied endWhere withMoney withCap
     presented
 takes-open s c h q = record { object = q .object; made = q .made; derived = q .derived; renamed = q .renamed }
-
--- what 2, 3 and 4 leave: with 4 the caller is marked, else nothing changes
-pub stopped-by : (s : State) (c : Call) (P : State → Type 0)
-    → (early s c ≡ 4 → P (setTerminated s (caller s c) true)) → P s → P (stopped s c (early s c))
-unfolding stopped
-stopped-by s c P a b =
-    pick-by P (eqb (early s c) 4) (setTerminated s (caller s c) true) s (λ e. a (eqb-true _ _ e)) (λ _. b)
 
 module _ (s : State) (G : Formed s) (c : Call) where
   pub keep-paid : early s c ≡ 0 → Kept s (paid s c)
