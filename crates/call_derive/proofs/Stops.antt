@@ -22,6 +22,7 @@ use Rattle.call_steps.specs.declared.request.Reply.{Reply}
 use Rattle.call_steps.specs.Refuses.{Refuses}
 use Rattle.call_steps.specs.Replies.{Gives, Replies}
 use Rattle.call_steps.specs.Tests.{CapSlot, taken}
+use Rattle.call_steps.specs.Run.{windowIn}
 use Rattle.call_steps.proofs.Replying.{replies-stopped, replies-done}
 use Rattle.call_grow.specs.declared.cap.NewCap.{NewCap}
 use Rattle.call_grow.specs.Made.{capOf, freeCap, newWords, Makes}
@@ -30,7 +31,7 @@ use Rattle.call_derive.specs.Runs.{childIn, IsChild, derivedLinks, money
 -- ---- the child
 
 pub child-cells : (l w : List ℕ) (k rights : ℕ) (range : Window) (drawn : Password) → CapSlot k → (v : Window) (q : ℕ)
-    → v ≡ moved range (record { start = getD w (Layout.START + k) 0; end = getD w (Layout.END + k) 0 })
+    → v ≡ moved range (windowIn w k)
     → q ≡ both (getD l (Layout.RIGHTS + k) 0) rights
     → _≡_ {A = Cap} (record {
       object = getD l (Layout.OWNER + k) 0;
@@ -41,7 +42,7 @@ pub child-cells : (l w : List ℕ) (k rights : ℕ) (range : Window) (drawn : Pa
     }) (childIn l w k rights range drawn)
 unfolding childIn
 child-cells l w k rights range drawn at v q ev eq =
-    rw (row Layout.START w k at, row Layout.END w k at, row Layout.RIGHTS l k at, row Layout.OWNER l k at) (λ i. record {
+    rw (row Layout.RIGHTS l k at, row Layout.OWNER l k at) (λ i. record {
       object = getD l (Layout.OWNER + k) 0;
       parent = k;
       password = drawn;

@@ -15,10 +15,10 @@ use Rattle.rules.specs.Call.{handsBack}
 use Rattle.rules.specs.Refusals.{_when_, first}
 use Rattle.rules.specs.Calls.{moved}
 use Rattle.layout.specs.Layout as Layout
-use Rattle.layout.specs.Rows.{masterOf, ownerOf, firstChildOf, rightsOf, moneyOf, startOf, endOf}
+use Rattle.layout.specs.Rows.{masterOf, ownerOf, firstChildOf, rightsOf, moneyOf}
 use Rattle.layout.specs.View.{view}
 use Rattle.layout.specs.WellFormed.{Sized}
-use Rattle.call_steps.specs.Run.{Ran, settled}
+use Rattle.call_steps.specs.Run.{Ran, settled, windowIn}
 use Rattle.call_steps.specs.Tests.{ObjectSlot, CapSlot, taken}
 use Rattle.call_grow.specs.declared.cap.NewCap.{NewCap}
 use Rattle.call_grow.specs.Made.{capOf, freeCap, newLinks, newWords}
@@ -31,7 +31,7 @@ childIn l w k rights range drawn = record {
   object = ownerOf l k;
   parent = k;
   password = drawn;
-  window = moved range (record { start = startOf w k; end = endOf w k });
+  window = moved range (windowIn w k);
   rights = both (rightsOf l k) rights;
 }
 

@@ -5,13 +5,12 @@ ghost use Rattle.call_grow.specs.Made.{capOf};
 ghost use Rattle.call_derive.specs.Runs.{ChildAsks, IsChild, AddAsks, Adds};
 use call_grow::cap::NewCap;
 use call_grow::cap::new_cap;
-use layout::END;
+use call_steps::target::window_at;
 use layout::FIRST_CHILD;
 use layout::MONEY;
 use layout::OWNER;
 use layout::PREV_CAP;
 use layout::RIGHTS;
-use layout::START;
 use layout::slot;
 use values::moneyword::Moneyword;
 use values::rights::Rights;
@@ -30,10 +29,7 @@ pub(crate) fn child_of(
     requires { ⌜ ChildAsks (now links) (now words) k rights ⌝ }
     ensures { λ r. ⌜ IsChild (now (links .entry)) (now (words .entry)) k rights (windowOf range) (passwordOf drawn) r ⌝ }
 {
-    let window = Window {
-        start: words[START + k],
-        end: words[END + k],
-    };
+    let window = window_at(words, k);
     let own = Rights(links[RIGHTS + k]);
     let asked = Rights(rights as u16);
     NewCap {

@@ -8,13 +8,13 @@ use lib.Dec.{eqb}
 use lib.ListN.{drop, length}
 use Rattle.rules.specs.Code as Code
 use Rattle.rules.specs.Limit as Limit
-use Rattle.rules.specs.Store.{State}
+use Rattle.rules.specs.Store.{State, Window}
 use Rattle.rules.specs.Rights.{Op}
 use Rattle.rules.specs.Call.{Call, Answer, Outcome, Choice, code, handsOver}
 use Rattle.rules.specs.Refusals.{first}
 use Rattle.rules.specs.Calls.{refuses, does}
 use Rattle.rules.specs.Demand.{Open}
-use Rattle.layout.specs.Rows.{flagOf, masterOf, ownerOf}
+use Rattle.layout.specs.Rows.{flagOf, masterOf, ownerOf, startOf, endOf}
 use Rattle.layout.specs.View.{view}
 use Rattle.layout.specs.Shape.{Shape}
 use Rattle.layout.specs.WellFormed.{Sized, Cells}
@@ -38,6 +38,10 @@ pub record Target (l : List ℕ) (k : ℕ) : Type 0 where
   pub held : Held l k
   pub slot : ObjectSlot (ownerOf l k)
   pub live : masterOf l (ownerOf l k) ≢ 0
+
+-- the window of the capability in slot k
+abbrev pub windowIn : List ℕ → ℕ → Window
+windowIn w k = record { start = startOf w k; end = endOf w k }
 
 -- a call that is over: its answer, and the store's slices
 pub record Ran : Type 0 where

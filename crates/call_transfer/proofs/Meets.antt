@@ -15,9 +15,9 @@ use Rattle.layout.specs.Rows.{masterOf, sizeOf, firstBlockOf, ownerOf}
 use Rattle.layout.specs.View.{view}
 use Rattle.layout.specs.WellFormed.{Plain}
 use Rattle.layout.proofs.Shown.{cap-object, cap-here, bytes-here}
-use Rattle.call_steps.specs.Run.{Held, MeetsPlain, over, handedOver}
+use Rattle.call_steps.specs.Run.{Held, MeetsPlain, over, handedOver, windowIn}
 use Rattle.call_steps.proofs.Meeting.{takes, DoesPlain, plain-settled}
-use Rattle.call_transfer.specs.Runs.{range, window, inside, bytesIn, copiedIn, readRun, writeRun}
+use Rattle.call_transfer.specs.Runs.{range, inside, bytesIn, copiedIn, readRun, writeRun}
 use Rattle.call_transfer.proofs.Stops.{inside-no, ends-in}
 use Rattle.call_transfer.proofs.Requires.{target-of}
 use Rattle.call_transfer.proofs.Stored.{replaced, after-length, write-stored, write-cells}
@@ -46,7 +46,7 @@ module _ {b l w : List ℕ} (f : Plain b l w) (c : Call) (me k : ℕ) (h : Held 
 
   -- where it is not, the range ends within the object
   ends-within : inside w k (c .range .start) (c .range .end) ≡ 0 → c .range .end ≤ sizeOf l (ownerOf l k)
-  ends-within z = by-bool (liesIn (range (c .range .start) (c .range .end)) (window w k))
+  ends-within z = by-bool (liesIn (range (c .range .start) (c .range .end)) (windowIn w k))
       (λ e. omega (arith, ends-in w k (c .range .start) (c .range .end) e, target-of f h .fits))
       (λ e. absurd (omega (arith, inside-no w k (c .range .start) (c .range .end) e)))
 

@@ -10,12 +10,12 @@ use lib.Seq.{getD-drop, getD-append-add, ext-getD}
 use Rattle.rules.specs.Calls.{liesIn}
 use Rattle.layout.specs.Rows.{sizeOf, firstBlockOf, ownerOf}
 use Rattle.call_steps.specs.declared.request.Reply.{Reply}
-use Rattle.call_steps.specs.Run.{over, handedOver, overlay}
+use Rattle.call_steps.specs.Run.{over, handedOver, overlay, windowIn}
 use Rattle.call_steps.specs.Replies.{HandsOver, Fills}
 use Rattle.call_steps.proofs.Meeting.{stopped, goes-on}
 use Rattle.call_steps.proofs.Replying.{fills-done}
 use Rattle.call_steps.specs.Copies.{laid}
-use Rattle.call_transfer.specs.Runs.{cellOf, copiedOut, range, window, part, readRun, ReadAsks}
+use Rattle.call_transfer.specs.Runs.{cellOf, copiedOut, range, part, readRun, ReadAsks}
 use Rattle.call_steps.proofs.Laid.{laid-length, laid-other, laid-at}
 use Rattle.call_transfer.proofs.Places.{part-length, part-at}
 use Rattle.call_transfer.proofs.Stops.{inside-no, inside-yes, ends-in}
@@ -55,13 +55,13 @@ module _ (value : ℕ → ℕ) (xs buffer : List ℕ) (n : ℕ) (long : length x
 -- ---- the run
 
 module _ {b l w buffer : List ℕ} {k start end : ℕ} (a : ReadAsks b l w buffer k start end) where
-  pub reads-met : liesIn (range start end) (window w k) ≡ false → over 7 b l w ≡ readRun b l w k start end
+  pub reads-met : liesIn (range start end) (windowIn w k) ≡ false → over 7 b l w ≡ readRun b l w k start end
   unfolding readRun
   reads-met e = stopped b l w _ 7 (inside-no w k start end e) (omega arith)
 
   -- the bytes that were copied
   pub reads-done : (head : ℕ) → head ≡ firstBlockOf l (ownerOf l k)
-      → liesIn (range start end) (window w k) ≡ true
+      → liesIn (range start end) (windowIn w k) ≡ true
       → (after : List ℕ) → after ≡ copiedOut b l head start (end - start) buffer
       → {r : Reply} → HandsOver 0 (end - start) r → Fills r b l w buffer after (readRun b l w k start end)
   unfolding readRun

@@ -12,25 +12,26 @@ use Rattle.rules.specs.Calls.{liesIn}
 use Rattle.rules.proofs.Tests.{all2}
 use Rattle.layout.specs.Rows.{firstBlockOf, nextBlockOf, ownerOf, startOf, endOf}
 use Rattle.layout.specs.WellFormed.{Sized}
-use Rattle.call_transfer.specs.Runs.{range, window, inside, BlocksHold, CopyAsks}
+use Rattle.call_steps.specs.Run.{windowIn}
+use Rattle.call_transfer.specs.Runs.{range, inside, BlocksHold, CopyAsks}
 use Rattle.call_blocks.proofs.Hops.{hop-block}
 
 module _ (w : List ℕ) (k start end : ℕ) where
-  pub inside-no : liesIn (range start end) (window w k) ≡ false → inside w k start end ≡ 7
+  pub inside-no : liesIn (range start end) (windowIn w k) ≡ false → inside w k start end ≡ 7
   unfolding inside first _when_
   inside-no e = rw e
 
-  pub inside-yes : liesIn (range start end) (window w k) ≡ true → inside w k start end ≡ 0
+  pub inside-yes : liesIn (range start end) (windowIn w k) ≡ true → inside w k start end ≡ 0
   unfolding inside first _when_
   inside-yes e = rw e
 
-  pub ends-in : liesIn (range start end) (window w k) ≡ true → end ≤ endOf w k
+  pub ends-in : liesIn (range start end) (windowIn w k) ≡ true → end ≤ endOf w k
   unfolding liesIn
   ends-in e = leb-true end (endOf w k) (all2 (leb (startOf w k) start) (leb end (endOf w k)) e .1)
 
 pub copy-asks : {b l w : List ℕ} {k : ℕ} (head start end n : ℕ) → Sized b l w → BlocksHold l w k
     → head ≡ firstBlockOf l (ownerOf l k)
-    → liesIn (range start end) (window w k) ≡ true → start + n ≡ end
+    → liesIn (range start end) (windowIn w k) ≡ true → start + n ≡ end
     → CopyAsks b l head start n
 unfolding blocks
 copy-asks {b} {l} {w} {k} head start end n z t e h q =

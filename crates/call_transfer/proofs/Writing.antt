@@ -7,19 +7,19 @@ use native.Mathlib.Omega.{arith}
 use lib.ListN.{length}
 use Rattle.rules.specs.Calls.{liesIn}
 use Rattle.layout.specs.Rows.{firstBlockOf, ownerOf}
-use Rattle.call_steps.specs.Run.{over}
+use Rattle.call_steps.specs.Run.{over, windowIn}
 use Rattle.call_steps.proofs.Meeting.{stopped, goes-on}
-use Rattle.call_transfer.specs.Runs.{copiedIn, range, window, writeRun, WriteAsks}
+use Rattle.call_transfer.specs.Runs.{copiedIn, range, writeRun, WriteAsks}
 use Rattle.call_transfer.proofs.Stops.{inside-no, inside-yes}
 
 module _ {b l w text : List ℕ} {k start end : ℕ} (a : WriteAsks b l w text k start end) where
-  pub writes-met : liesIn (range start end) (window w k) ≡ false
+  pub writes-met : liesIn (range start end) (windowIn w k) ≡ false
       → over 7 b l w ≡ writeRun b l w k start end text
   unfolding writeRun
   writes-met e = stopped b l w _ 7 (inside-no w k start end e) (omega arith)
 
   pub writes-done : (head : ℕ) → head ≡ firstBlockOf l (ownerOf l k)
-      → liesIn (range start end) (window w k) ≡ true
+      → liesIn (range start end) (windowIn w k) ≡ true
       → (after : List ℕ) → after ≡ copiedIn l head start text (length text) b
       → over 0 after l w ≡ writeRun b l w k start end text
   unfolding writeRun

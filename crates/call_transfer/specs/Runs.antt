@@ -11,13 +11,13 @@ use Rattle.rules.specs.Store.{Window, blocks}
 use Rattle.rules.specs.Refusals.{_when_, first}
 use Rattle.rules.specs.Calls.{liesIn}
 use Rattle.layout.specs.Layout as Layout
-use Rattle.layout.specs.Rows.{sizeOf, firstBlockOf, ownerOf, nextBlockOf, startOf, endOf, dataIn}
+use Rattle.layout.specs.Rows.{sizeOf, firstBlockOf, ownerOf, nextBlockOf, endOf, dataIn}
 use Rattle.layout.specs.View.{gather}
 use Rattle.layout.specs.Shape.{Chain}
 use Rattle.layout.specs.WellFormed.{Sized}
 use Rattle.call_blocks.specs.Walk.{hop, Blocked}
 use Rattle.call_steps.specs.Copies.{laid}
-use Rattle.call_steps.specs.Run.{Target, Ran, over, handedOver, settled}
+use Rattle.call_steps.specs.Run.{Target, Ran, over, handedOver, settled, windowIn}
 
 -- ---- places
 
@@ -38,12 +38,8 @@ copiedIn l head start text n b = laid (λ i. cellOf l head (start + i)) (λ i. g
 abbrev pub range : ℕ → ℕ → Window
 range start end = record { start = start; end = end }
 
--- of capability k
-abbrev pub window : List ℕ → ℕ → Window
-window w k = range (startOf w k) (endOf w k)
-
 unfoldable pub inside : List ℕ → ℕ → ℕ → ℕ → ℕ
-inside w k start end = first (Code.outsideWindow when not (liesIn (range start end) (window w k)) ∷ [])
+inside w k start end = first (Code.outsideWindow when not (liesIn (range start end) (windowIn w k)) ∷ [])
 
 -- the bytes of the object in slot o
 unfoldable pub bytesIn : List ℕ → List ℕ → ℕ → List ℕ

@@ -6,25 +6,19 @@ ghost use Rattle.rules.specs.Limit as Limit;
 ghost use Rattle.rules.specs.Calls.{liesIn};
 ghost use Rattle.layout.specs.Layout as Layout;
 ghost use Rattle.layout.specs.Rows.{ownerOf, firstBlockOf};
-ghost use Rattle.call_steps.specs.Run.{Target};
-ghost use Rattle.call_transfer.specs.Runs.{range, window};
-use layout::END;
+ghost use Rattle.call_steps.specs.Run.{Target, windowIn};
+ghost use Rattle.call_transfer.specs.Runs.{range};
+use call_steps::target::window_at;
 use layout::FIRST_BLOCK;
 use layout::OWNER;
-use layout::START;
 use values::window::Window;
 
 // The range start to end lies in the window of the capability in slot k.
 pub(crate) fn in_window(words: &[u32], k: usize, start: u32, end: u32) -> bool
     requires { ⌜ (length (now words) ≡ Layout.WORDS) × (1 ≤ k) × (k ≤ Limit.caps) ⌝ }
-    ensures { λ r. ⌜ r ≡ liesIn (range start end) (window (now (words .entry)) k) ⌝ }
+    ensures { λ r. ⌜ r ≡ liesIn (range start end) (windowIn (now (words .entry)) k) ⌝ }
 {
-    let from = words[START + k];
-    let to = words[END + k];
-    let window = Window {
-        start: from,
-        end: to,
-    };
+    let window = window_at(words, k);
     window.holds(Window {
         start: start,
         end: end,
