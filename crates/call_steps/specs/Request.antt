@@ -1,9 +1,11 @@
 -- A request as the rules' call, and a reply as their answer.
 use Prim.Native.Nat.{ℕ}
-use mathlib.Core.List.{List}
+use mathlib.Core.List.{List, [], _∷_}
 use Rattle.rules.specs.Store as Store
 use Rattle.rules.specs.Call as Call
+use Rattle.rules.specs.Rights.{readNumber}
 use Rattle.values.specs.Words.{passwordOf, lockwordOf, windowOf}
+use Rattle.values.specs.declared.window.Window.{Window}
 use Rattle.call_steps.specs.declared.request.Name.{Name}
 use Rattle.call_steps.specs.declared.request.Capability.{Capability}
 use Rattle.call_steps.specs.declared.request.Request.{Request}
@@ -33,6 +35,23 @@ callOf r text buffer scratch = record {
   buffer = buffer;
   scratch = scratch;
   limit = r .limit;
+}
+
+-- a read of this range; the arguments that it does not use are 0
+unfoldable pub readRequest : Name → Capability → Window → Request
+readRequest caller presented range = record {
+  number = readNumber;
+  caller = caller;
+  presented = presented;
+  name = record { volume = 0; serial = 0 };
+  size = 0;
+  flag = 0;
+  rights = 0;
+  drawn = 0 ∷ 0 ∷ [];
+  range = range;
+  sum = 0;
+  lock = 0 ∷ 0 ∷ [];
+  limit = 0;
 }
 
 -- with the bytes at the buffer's front

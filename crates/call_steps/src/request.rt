@@ -2,11 +2,12 @@
 ghost use mathlib.Core.Path.{_≡_};
 ghost use Rattle.rules.specs.Call.{noCapability, done, handsBack, tells};
 ghost use Rattle.values.specs.Words.{passwordOf};
-ghost use Rattle.call_steps.specs.Request.{nameOf, capabilityOf};
+ghost use Rattle.call_steps.specs.Request.{nameOf, capabilityOf, readRequest};
 ghost use Rattle.call_steps.specs.Refuses.{Refuses};
 ghost use Rattle.call_steps.specs.Replies.{Gives, HandsOver};
 use values::code::DONE;
 use values::moneyword::Moneyword;
+use values::number::READ;
 use values::window::Window;
 
 // An object's name: its volume and a serial.
@@ -51,6 +52,31 @@ pub struct Request {
     pub rights: u32,
     pub sum: u32,
     pub limit: u32,
+}
+
+impl Request {
+    // A read of this range; the arguments that it does not use are 0.
+    pub fn read(caller: Name, presented: Capability, range: Window) -> Request
+        ensures { λ r. ⌜ r ≡ readRequest caller presented range ⌝ }
+    {
+        Request {
+            number: READ,
+            caller: caller,
+            presented: presented,
+            name: Name {
+                volume: 0,
+                serial: 0,
+            },
+            size: 0,
+            flag: 0,
+            rights: 0,
+            drawn: [0, 0],
+            range: range,
+            sum: 0,
+            lock: [0, 0],
+            limit: 0,
+        }
+    }
 }
 
 // 0 or the refusal, and the results; `count` bytes stand at the buffer's front. Numbers that are handed over side by side

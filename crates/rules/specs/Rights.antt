@@ -72,6 +72,10 @@ op number = getD
     ∷ send ∷ receive ∷ wait ∷ revive ∷ [])
     number unknown
 
+-- numbers by name, of the calls that a product above the store makes by itself
+abbrev pub readNumber : ℕ
+readNumber = 2
+
 -- the sixteen fees, in call order
 unfoldable pub fees : List ℕ
 fees = 20 ∷ 1 ∷ 2 ∷ 1 ∷ 5 ∷ 5 ∷ 10 ∷ 2 ∷ 2 ∷ 1 ∷ 1 ∷ 5 ∷ 2 ∷ 1 ∷ 0 ∷ 5 ∷ []

@@ -1,0 +1,3 @@
+// Numbers of calls by name, in call order 1 to 16: of those that a product above the store makes by itself.
+
+pub const READ: u32 = 2;
