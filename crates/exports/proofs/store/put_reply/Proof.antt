@@ -1,11 +1,11 @@
 -- `put_reply` writes the numbers in their order.
 use native.Mathlib.Omega.{arith}
-use lib.ListN.{getD, length-set}
+use lib.ListN.{length-set}
 use borrow.Author.Needs.{needs}
-use Rattle.exports.specs.Numbers.{numbersOf}
+use Rattle.exports.specs.Store.{numbersOf}
 use Rattle.exports.proofs.Filled.{filled}
-use Rattle.exports.proofs.put_reply.Statement.{statement}
-use Rattle.exports.proofs.put_reply.Tie as tie
+use Rattle.exports.proofs.store.put_reply.Statement.{statement}
+use Rattle.exports.proofs.store.put_reply.Tie as tie
 
 slice-write-numbers : tie.Need-slice-write-numbers
 slice-write-numbers c = search needs
@@ -47,9 +47,7 @@ returns : tie.Need-returns
 unfolding numbersOf
 returns c =
     let a = c .before .before in
-    let r = a .args .r in
-    filled (r .code) (r .capability .name .volume) (r .capability .name .serial) (getD (r .capability .password) 0 0)
-    (getD (r .capability .password) 1 0) (r .length) (r .moneyword) (r .sum) (r .count) (a .args .numbers .now) (a .pre)
+    filled (numbersOf (a .args .r)) (a .args .numbers .now) (a .pre)
 
 pub put-reply-spec : {M : Type 1} → statement M
 put-reply-spec =

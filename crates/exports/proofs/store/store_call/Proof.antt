@@ -3,28 +3,29 @@ use mathlib.Core.Path.{refl}
 use borrow.Author.Needs.{needs}
 use Rattle.layout.proofs.Deciding.{refuted}
 use Rattle.exports.specs.Numbers.{Fitting}
+use Rattle.exports.specs.Store.{requestLength, replyLength}
 use Rattle.exports.proofs.Making.{made-by, kept-by}
-use Rattle.exports.proofs.store_call.Statement.{statement}
-use Rattle.exports.proofs.store_call.Tie as tie
+use Rattle.exports.proofs.store.store_call.Statement.{statement}
+use Rattle.exports.proofs.store.store_call.Tie as tie
 
 abbrev start : tie.Then1 → tie.Start
 start c = c .before .before .before .before .before .before .before .before .before .before
 
 -- both slices have their lengths
-fitting : (c : tie.Then1) → Fitting (start c .args .request .now) (start c .args .reply .now)
+fitting : (c : tie.Then1) → Fitting requestLength replyLength (start c .args .request .now) (start c .args .reply .now)
 fitting c = c .before .fits2 .ensures .sound (c .if1 .taken)
 
 fits-requires : tie.Need-fits-requires
 fits-requires c κs = search needs
 
 request-of-requires : tie.Need-request-of-requires
-request-of-requires c κs = fitting c .asks
+request-of-requires c κs = fitting c .asks-is
 
 call-requires : tie.Need-call-requires
 call-requires c κs = search needs
 
 put-reply-requires : tie.Need-put-reply-requires
-put-reply-requires c κs = fitting (c .before .before .before .before .before .before .before .before .before .before .before .before .before .before .before .before .before .before) .tells
+put-reply-requires c κs = fitting (c .before .before .before .before .before .before .before .before .before .before .before .before .before .before .before .before .before .before) .tells-is
 
 same-length : tie.Need-same-length
 same-length c = search needs

@@ -1,0 +1,142 @@
+// The check, the fresh store and the calls.
+ghost use mathlib.Core.Path.{_≡_};
+ghost use mathlib.Core.List.{_∷_, []};
+ghost use Rattle.layout.specs.WellFormed.{WellFormed};
+ghost use Rattle.layout.specs.Decides.{Decides};
+ghost use Rattle.values.specs.Words.{passwordOf};
+ghost use lib.ListN.{length};
+ghost use Rattle.kernel_fresh.specs.Fresh.{Fresh};
+ghost use Rattle.kernel_step.specs.Slices.{slices};
+ghost use Rattle.exports.specs.Store.{requestLength, replyLength, requestOf, numbersOf, Exported};
+use crate::numbers::capability_at;
+use crate::numbers::fits;
+use crate::numbers::name_at;
+use crate::numbers::unfit;
+use call_steps::request::Reply;
+use call_steps::request::Request;
+use values::code::OUT_OF_RANGE;
+use values::window::Window;
+
+// How many numbers a request and a reply have.
+const REQUEST: usize = 20;
+
+const REPLY: usize = 9;
+
+// Whether the store is well formed.
+#[no_mangle]
+pub extern "C" fn store_check(bytes: &[u8], links: &[u16], words: &[u32]) -> bool
+    ensures { λ r. ⌜ Decides (WellFormed (now (bytes .entry)) (now (links .entry)) (now (words .entry))) r ⌝ }
+{
+    kernel_check::check(bytes, links, words)
+}
+
+// Makes a fresh store.
+#[no_mangle]
+pub extern "C" fn store_fresh(
+    supply: u32,
+    p1: u32,
+    p2: u32,
+    bytes: &mut [u8],
+    links: &mut [u16],
+    words: &mut [u32],
+) -> u32
+    ensures { λ r. ⌜ Fresh supply (passwordOf (p1 ∷ p2 ∷ [])) (now (bytes .entry)) (now (links .entry)) (now (words .entry))
+        (now (bytes .exit)) (now (links .exit)) (now (words .exit)) r ⌝ }
+{
+    kernel_fresh::fresh(supply, [p1, p2], bytes, links, words)
+}
+
+// The 20 numbers of a request.
+fn request_of(numbers: &[u32]) -> Request
+    requires { ⌜ length (now numbers) ≡ requestLength ⌝ }
+    ensures { λ r. ⌜ r ≡ requestOf (now (numbers .entry)) ⌝ }
+{
+    Request {
+        number: numbers[0],
+        caller: name_at(numbers, 1),
+        presented: capability_at(numbers, 3),
+        name: name_at(numbers, 7),
+        size: numbers[9],
+        flag: numbers[10],
+        rights: numbers[11],
+        drawn: [numbers[12], numbers[13]],
+        range: Window {
+            start: numbers[14],
+            end: numbers[15],
+        },
+        sum: numbers[16],
+        lock: [numbers[17], numbers[18]],
+        limit: numbers[19],
+    }
+}
+
+// The 9 numbers of a reply.
+fn put_reply(r: Reply, numbers: &mut [u32])
+    requires { ⌜ length (now numbers) ≡ replyLength ⌝ }
+    ensures { λ _. ⌜ now (numbers .exit) ≡ numbersOf r ⌝ }
+{
+    let capability = r.capability;
+    let password = capability.password;
+    numbers[0] = r.code;
+    numbers[1] = capability.name.volume;
+    numbers[2] = capability.name.serial;
+    numbers[3] = password[0];
+    numbers[4] = password[1];
+    numbers[5] = r.length;
+    numbers[6] = r.moneyword;
+    numbers[7] = r.sum;
+    numbers[8] = r.count;
+}
+
+// Makes a call: 20 numbers of a request, 9 of the reply. Where either slice has another length, nothing is written, and
+// it is 1 on a store that is not well formed, else 2.
+#[no_mangle]
+pub extern "C" fn store_call(
+    bytes: &mut [u8],
+    links: &mut [u16],
+    words: &mut [u32],
+    text: &[u8],
+    buffer: &mut [u8],
+    scratch: &mut [u16],
+    request: &[u32],
+    reply: &mut [u32],
+) -> u32
+    ensures { λ r. ⌜ Exported (now (request .entry)) (now (text .entry)) r (now (reply .entry)) (now (reply .exit))
+        (slices (now (bytes .entry)) (now (links .entry)) (now (words .entry)) (now (buffer .entry)) (now (scratch .entry)))
+        (slices (now (bytes .exit)) (now (links .exit)) (now (words .exit)) (now (buffer .exit)) (now (scratch .exit))) ⌝ }
+{
+    if fits(request.len(), REQUEST, reply.len(), REPLY) {
+        let asked = request_of(request);
+        let answer = kernel_call::call(bytes, links, words, text, buffer, scratch, asked);
+        put_reply(answer, reply);
+        return answer.code;
+    }
+    unfit(bytes, links, words)
+}
+
+// The same on a store that its caller has found well formed, which is not checked again. C cannot state that by a type, and
+// nothing tests it: on any other store this function may do anything, reading and writing outside the slices included.
+#[no_mangle]
+pub extern "C" fn store_step_unchecked(
+    bytes: &mut [u8],
+    links: &mut [u16],
+    words: &mut [u32],
+    text: &[u8],
+    buffer: &mut [u8],
+    scratch: &mut [u16],
+    request: &[u32],
+    reply: &mut [u32],
+) -> u32
+    requires { ⌜ WellFormed (now bytes) (now links) (now words) ⌝ }
+    ensures { λ r. ⌜ Exported (now (request .entry)) (now (text .entry)) r (now (reply .entry)) (now (reply .exit))
+        (slices (now (bytes .entry)) (now (links .entry)) (now (words .entry)) (now (buffer .entry)) (now (scratch .entry)))
+        (slices (now (bytes .exit)) (now (links .exit)) (now (words .exit)) (now (buffer .exit)) (now (scratch .exit))) ⌝ }
+{
+    if fits(request.len(), REQUEST, reply.len(), REPLY) {
+        let req = request_of(request);
+        let r = kernel_step::step(bytes, links, words, text, buffer, scratch, req);
+        put_reply(r, reply);
+        return r.code;
+    }
+    OUT_OF_RANGE
+}
