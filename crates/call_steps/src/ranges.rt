@@ -25,7 +25,7 @@ use values::rights::Rights;
 use values::window::Window;
 
 // Volumes are 0 to 3, serials 0 to 65,535.
-fn name_fits(name: Name) -> bool
+pub fn name_fits(name: Name) -> bool
     ensures { λ r. ⌜ r ≡ nameFits (nameOf name) ⌝ }
 {
     if name.volume <= MAX_VOLUME {

@@ -28,7 +28,7 @@ use Rattle.rules.proofs.Deleting.{delete-by}
 
 module _ (s : State) (c : Call) (me k : ℕ) where
   -- it is 0
-  does-done : (h : Choice) (o : Op) → argumentsFit o c ≡ true → does s c me k h o .answer .code ≡ 0
+  pub does-done : (h : Choice) (o : Op) → argumentsFit o c ≡ true → does s c me k h o .answer .code ≡ 0
   unfolding argumentsFit does makeObjDoes readDoes writeDoes capInfoDoes deriveCapDoes renameObjDoes withdrawDoes depositDoes
       suspendDoes resumeDoes applyLockDoes sendDoes receiveDoes reviveDoes done code handsBack handsOver tells
   does-done h makeObj e = refl

@@ -38,6 +38,7 @@ pub mod Ended
 pub mod Choices
 pub mod Runs
 pub mod Awake
+pub mod Asking
 pub mod Theorems
 -- which free slots are taken is not seen: slots one to one, two states that differ in their slots alone, the calls on them
 pub mod Carried

@@ -34,7 +34,7 @@ Unmet [] = Unit {0}
 Unmet (r ∷ l) = (r .met ≡ false) × Unmet l
 
 -- each has a number that passes the test
-numbers : (ℕ → Bool) → List Refusal → Bool
+unfoldable pub numbers : (ℕ → Bool) → List Refusal → Bool
 numbers t [] = true
 numbers t (r ∷ l) = t (r .number) && numbers t l
 
@@ -47,7 +47,7 @@ first-skip r l n e h = by-bool (r .met)
     (λ q. (q, sym (pick-not (r .met) (r .number) (first l) q) ∙ e))
 
 -- where 0 has none of these numbers, and the first that is met is 0, none is met
-none-met : (t : ℕ → Bool) (l : List Refusal) → t 0 ≡ false → numbers t l ≡ true → first l ≡ 0 → Unmet l
+pub none-met : (t : ℕ → Bool) (l : List Refusal) → t 0 ≡ false → numbers t l ≡ true → first l ≡ 0 → Unmet l
 unfolding numbers
 none-met t [] z e f = tt
 none-met t (r ∷ l) z e f =
@@ -56,7 +56,7 @@ none-met t (r ∷ l) z e f =
     (g .0, none-met t l z (d .1) (g .1))
 
 -- the first that is met is one of them
-first-in : (t : ℕ → Bool) (l : List Refusal) → numbers t l ≡ true → first l ≢ 0 → t (first l) ≡ true
+pub first-in : (t : ℕ → Bool) (l : List Refusal) → numbers t l ≡ true → first l ≢ 0 → t (first l) ≡ true
 unfolding numbers first
 first-in t [] e h = absurd (h refl)
 first-in t (r ∷ l) e h =
@@ -81,7 +81,7 @@ first-front (r ∷ a) b h = by-bool (r .met)
     let f = pick-not (r .met) (r .number) (first a) q in
     pick-not (r .met) (r .number) (first (a ++ b)) q ∙ first-front a b (λ z. h (f ∙ z)) ∙ sym f)
 
-first-append : (a b : List Refusal) → Unmet a → first (a ++ b) ≡ first b
+pub first-append : (a b : List Refusal) → Unmet a → first (a ++ b) ≡ first b
 unfolding first
 first-append [] b h = refl
 first-append (r ∷ a) b h = pick-not (r .met) (r .number) (first (a ++ b)) (h .0) ∙ first-append a b (h .1)

@@ -3,13 +3,14 @@ use mathlib.Core.Path.{subst}
 use mathlib.Core.List.{_∷_}
 use Rattle.rules.specs.Demand.{Now, start, run, Legal, Demand3}
 use Rattle.rules.specs.Theorems.{FreshValid, ValidKept, MoneyKept, RefusedLeaves, AnswerFixed, ChoiceExists}
-use Rattle.rules.specs.Theorems.{LastFree, RunExists, MailWakes}
+use Rattle.rules.specs.Theorems.{LastFree, RunExists, MailWakes, ReadRefuses, ReadInside}
 use Rattle.rules.proofs.Answers.{refused-rule, answer-same}
 use Rattle.rules.proofs.Steps.{keep-step}
 use Rattle.rules.proofs.Fresh.{valid-fresh}
 use Rattle.rules.proofs.Claims.{claims}
 use Rattle.rules.proofs.Choices.{choose, last-open}
 use Rattle.rules.proofs.Awake.{run-awake, awake-fresh}
+use Rattle.rules.proofs.Asking.{read-refused, read-inside}
 use Rattle.rules.proofs.Runs.{valid-step, good-start, good-run, legal-front, ended-next, run-of}
 
 pub fresh-valid : FreshValid
@@ -47,6 +48,14 @@ run-exists supply p W calls = run-of (start supply p) calls (valid-fresh supply 
 pub mail-wakes : MailWakes
 unfolding MailWakes start
 mail-wakes supply p l = run-awake (start supply p) l (awake-fresh supply p)
+
+pub read-refuses : ReadRefuses
+unfolding ReadRefuses
+read-refuses s c h r fit pays = read-refused s c r fit pays h
+
+pub read-in-window : ReadInside
+unfolding ReadInside
+read-in-window s c h r told inside = read-inside s c r told inside h
 
 -- the claims follow from the invariant at the end of the list, what a done delete ended from the invariant before it
 pub demand-3 : Demand3

@@ -1,4 +1,4 @@
--- 01's refusals by name, each number once on this side: "What each call refuses, in order".
+-- 01's refusals by name, each number once on this side: "What each call refuses, in order"; then those that 02 adds.
 use Prim.Native.Nat.{ℕ}
 
 -- the call was done
@@ -68,3 +68,7 @@ boxEmpty = 15
 -- "not terminated, or sum 0"
 abbrev pub notRevivable : ℕ
 notRevivable = 16
+
+-- 02, CR 3: "the window is not N × W bytes long"
+abbrev pub wrongLength : ℕ
+wrongLength = 17

@@ -1,15 +1,19 @@
 -- What is proved about the rules besides demand 3, each statement by itself; proofs/Theorems.antt has the proofs.
-use Prim.Native.Nat.{ℕ, _<_}
+use Prim.Native.Nat.{ℕ, _≤_, _<_}
 use mathlib.Core.Path.{_≡_}
-use mathlib.Core.Bool.{true, false}
-use mathlib.Core.List.{List, [], _∷_, map}
+use mathlib.Core.Logic.{_≢_}
+use mathlib.Core.Bool.{true, false, not}
+use mathlib.Core.List.{List, [], _∷_, _++_, map}
 use Rattle.rules.specs.Code as Code
 use Rattle.rules.specs.Store.{Password, State, moneyIn, fresh}
 use Rattle.rules.specs.Valid.{Valid}
 use Rattle.rules.specs.Call.{Call, Outcome, Choice, code}
-use Rattle.rules.specs.Refusals.{caller}
+use Rattle.rules.specs.Rights.{op, read, feeOf}
+use Rattle.rules.specs.Refusals.{Refusal, _when_, first, argumentsFit, caller}
 use Rattle.rules.specs.Changes.{setTerminated}
+use Rattle.rules.specs.Calls.{liesIn}
 use Rattle.rules.specs.Rule.{paid, rule, isDone}
+use Rattle.rules.specs.Questions.{windowSlot, windowRefuses, windowAsked}
 use Rattle.rules.specs.Demand.{Words, FreshWords, Open, Allowed, Step, Legal, start, run}
 use Rattle.rules.specs.Script.{lastFree}
 
@@ -71,3 +75,26 @@ Awake s = (o : ℕ) → s .marks o .waiting ≡ true → s .box o ≡ []
 -- so it is after every list of calls from a fresh store
 unfoldable pub MailWakes : Type 0
 MailWakes = (supply : ℕ) (p : Password) (l : List Step) → Awake (run (start supply p) l .store)
+
+-- ---- 02, CR 3: the window question is asked "with read's 1, 2, 3, 5 and 6"
+
+-- the question's refusals, then 7
+unfoldable pub readRefuses : State → Call → List Refusal
+readRefuses s c =
+    let k : ℕ = windowSlot s (c .caller) (c .presented) in
+    windowRefuses s (c .caller) (c .presented)
+    ++ (Code.outsideWindow when not (liesIn (c .range) (s .cap k .window)) ∷ [])
+
+-- they are a read's, where its range and buffer fit and its caller can pay
+unfoldable pub ReadRefuses : Type 0
+ReadRefuses = (s : State) (c : Call) (h : Choice) → op (c .number) ≡ read → argumentsFit read c ≡ true
+    → feeOf (c .number) ≤ s .cash (caller s c)
+    → rule s c h .answer .code ≡ first (readRefuses s c)
+
+-- so a read inside the window that the question tells is refused by none but 2, 3 and 4
+unfoldable pub ReadInside : Type 0
+ReadInside = (s : State) (c : Call) (h : Choice) → op (c .number) ≡ read
+    → windowAsked s (c .caller) (c .presented) .code ≡ Code.done
+    → liesIn (c .range) (windowAsked s (c .caller) (c .presented) .window) ≡ true
+    → rule s c h .answer .code ≢ Code.done
+    → rule s c h .answer .code ≤ Code.cannotPay

@@ -1,4 +1,5 @@
-// 01's refusals by name, each number once on this side; the rules have the same (specs/Code.antt of `rules`).
+// 01's refusals by name, each number once on this side, then those that 02 adds; the rules have the same (specs/Code.antt of
+// `rules`).
 
 // the call was done
 pub const DONE: u32 = 0;
@@ -50,3 +51,6 @@ pub const BOX_EMPTY: u32 = 15;
 
 // "not terminated, or sum 0"
 pub const NOT_REVIVABLE: u32 = 16;
+
+// 02, CR 3: "the window is not N × W bytes long"
+pub const WRONG_LENGTH: u32 = 17;

@@ -1,0 +1,2 @@
+-- The refusals of the window question, in order.
+pub mod Asking
