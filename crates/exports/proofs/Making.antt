@@ -2,12 +2,24 @@
 use Prim.Native.Nat.{ℕ}
 use mathlib.Core.Path.{_≡_, refl, subst}
 use mathlib.Core.List.{List}
+use Rattle.call_steps.specs.declared.request.Name.{Name}
+use Rattle.call_steps.specs.declared.request.Capability.{Capability}
 use Rattle.call_steps.specs.declared.request.Request.{Request}
 use Rattle.call_steps.specs.declared.request.Reply.{Reply}
 use Rattle.kernel_step.specs.Slices.{Slices}
 use Rattle.kernel_call.specs.Calls.{Calls}
-use Rattle.exports.specs.Numbers.{Fitting}
+use Rattle.question_window.specs.declared.Windowed.{Windowed}
+use Rattle.question_window.specs.Asks.{Asks}
+use Rattle.product_drive.specs.declared.repeat.Repeat.{Repeat}
+use Rattle.product_drive.specs.declared.repeat.Place.{Place}
+use Rattle.product_drive.specs.declared.picked.Picked.{Picked}
+use Rattle.product_drive.specs.Picks.{Picks}
+use Rattle.exports.specs.Numbers.{nameAt, capabilityAt, Fitting}
 use Rattle.exports.specs.Store as Store
+use Rattle.exports.specs.Question as Question
+use Rattle.exports.specs.Drive as Drive
+
+-- ---- a call
 
 module _ {request text : List ℕ} {reply reply′ : List ℕ} {was is : Slices} where
   pub kept-by : {code : ℕ} → (Fitting Store.requestLength Store.replyLength request reply → ⊥)
@@ -22,6 +34,49 @@ module _ {request text : List ℕ} {reply reply′ : List ℕ} {was is : Slices}
       reply = r;
       call = subst (λ x. Calls x text r was is) e c;
       numbers = n;
+      code-is = refl;
+    };
+    kept = λ bad. absurd (bad f);
+  }
+
+-- ---- the window question
+
+module _ {b l w request reply reply′ : List ℕ} where
+  pub window-kept : {code : ℕ} → (Fitting Question.requestLength Question.replyLength request reply → ⊥)
+      → Question.Unanswered b l w code reply reply′ → Question.Exported b l w request code reply reply′
+  window-kept bad k = record { made = λ f. absurd (bad f); kept = λ _. k }
+
+  pub window-made : {n : Name} {x : Capability} {a : Windowed}
+      → Fitting Question.requestLength Question.replyLength request reply
+      → n ≡ nameAt request 0 → x ≡ capabilityAt request 2 → Asks b l w n x a → reply′ ≡ Question.numbersOf a
+      → Question.Exported b l w request (a .code) reply reply′
+  window-made {n} {x} {a} f en ex asks e = record {
+    made = λ _. record {
+      answer = a;
+      asks = rw en at (rw ex at asks);
+      numbers = e;
+      code-is = refl;
+    };
+    kept = λ bad. absurd (bad f);
+  }
+
+-- ---- a pick
+
+module _ {request reply reply′ : List ℕ} {was is : Slices} where
+  pub pick-kept : {code : ℕ} → (Fitting Drive.requestLength Drive.replyLength request reply → ⊥)
+      → Drive.Unanswered code reply reply′ was is → Drive.Exported request code reply reply′ was is
+  pick-kept bad k = record { made = λ f. absurd (bad f); kept = λ _. k }
+
+  pub pick-made : {n : Name} {x : Capability} {p : Repeat} {d : Place} {r : Picked}
+      → Fitting Drive.requestLength Drive.replyLength request reply
+      → n ≡ nameAt request 0 → x ≡ capabilityAt request 2 → p ≡ Drive.repeatOf request → d ≡ Drive.placeOf request
+      → Picks n x p d r was is → reply′ ≡ Drive.numbersOf r
+      → Drive.Exported request (r .code) reply reply′ was is
+  pick-made {r = r} f en ex ep ed picks e = record {
+    made = λ _. record {
+      picked = r;
+      picks = rw en at (rw ex at (rw ep at (rw ed at picks)));
+      numbers = e;
       code-is = refl;
     };
     kept = λ bad. absurd (bad f);

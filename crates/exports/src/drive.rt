@@ -1,0 +1,129 @@
+// The loom drive.
+ghost use mathlib.Core.Path.{_≡_};
+ghost use mathlib.Core.List.{[]};
+ghost use lib.ListN.{length};
+ghost use Rattle.layout.specs.WellFormed.{WellFormed};
+ghost use Rattle.kernel_step.specs.Slices.{slices};
+ghost use Rattle.exports.specs.Drive.{requestLength, replyLength, repeatOf, placeOf, numbersOf, Exported};
+use crate::numbers::capability_at;
+use crate::numbers::fits;
+use crate::numbers::name_at;
+use product_drive::pick;
+use product_drive::pick_unchecked;
+use product_drive::picked::Picked;
+use product_drive::repeat::Place;
+use product_drive::repeat::Repeat;
+use values::code::OUT_OF_RANGE;
+
+// How many numbers a request and a reply have.
+const REQUEST: usize = 11;
+
+const REPLY: usize = 5;
+
+// N, C and W of a request.
+fn repeat_of(numbers: &[u32]) -> Repeat
+    requires { ⌜ length (now numbers) ≡ requestLength ⌝ }
+    ensures { λ r. ⌜ r ≡ repeatOf (now (numbers .entry)) ⌝ }
+{
+    Repeat {
+        picks: numbers[6],
+        counts: numbers[7],
+        row: numbers[8],
+    }
+}
+
+// The next pick and the steps so far of a request.
+fn place_of(numbers: &[u32]) -> Place
+    requires { ⌜ length (now numbers) ≡ requestLength ⌝ }
+    ensures { λ r. ⌜ r ≡ placeOf (now (numbers .entry)) ⌝ }
+{
+    Place {
+        next: numbers[9],
+        steps: numbers[10],
+    }
+}
+
+// The 5 numbers of a reply.
+fn put_picked(r: Picked, numbers: &mut [u32])
+    requires { ⌜ length (now numbers) ≡ replyLength ⌝ }
+    ensures { λ _. ⌜ now (numbers .exit) ≡ numbersOf r ⌝ }
+{
+    numbers[0] = r.code;
+    numbers[1] = r.step;
+    numbers[2] = r.place.next;
+    numbers[3] = r.place.steps;
+    numbers[4] = r.count;
+}
+
+// Makes a pick: 11 numbers of a request, 5 of the reply. Where either slice has another length, nothing is written, and
+// it is 2.
+#[no_mangle]
+pub extern "C" fn drive_pick(
+    bytes: &mut [u8],
+    links: &mut [u16],
+    words: &mut [u32],
+    buffer: &mut [u8],
+    request: &[u32],
+    reply: &mut [u32],
+) -> u32
+    ensures { λ r. ⌜ Exported (now (request .entry)) r (now (reply .entry)) (now (reply .exit))
+        (slices (now (bytes .entry)) (now (links .entry)) (now (words .entry)) (now (buffer .entry)) [])
+        (slices (now (bytes .exit)) (now (links .exit)) (now (words .exit)) (now (buffer .exit)) []) ⌝ }
+{
+    if fits(request.len(), REQUEST, reply.len(), REPLY) {
+        let caller = name_at(request, 0);
+        let presented = capability_at(request, 2);
+        let repeat = repeat_of(request);
+        let place = place_of(request);
+        let p = pick(
+            bytes,
+            links,
+            words,
+            buffer,
+            caller,
+            presented,
+            repeat,
+            place,
+        );
+        put_picked(p, reply);
+        return p.code;
+    }
+    OUT_OF_RANGE
+}
+
+// The same on a store that its caller has found well formed, which is not checked again. C cannot state that by a type, and
+// nothing tests it: on any other store this function may do anything, reading and writing outside the slices included.
+#[no_mangle]
+pub extern "C" fn drive_pick_unchecked(
+    bytes: &mut [u8],
+    links: &mut [u16],
+    words: &mut [u32],
+    buffer: &mut [u8],
+    request: &[u32],
+    reply: &mut [u32],
+) -> u32
+    requires { ⌜ WellFormed (now bytes) (now links) (now words) ⌝ }
+    ensures { λ r. ⌜ Exported (now (request .entry)) r (now (reply .entry)) (now (reply .exit))
+        (slices (now (bytes .entry)) (now (links .entry)) (now (words .entry)) (now (buffer .entry)) [])
+        (slices (now (bytes .exit)) (now (links .exit)) (now (words .exit)) (now (buffer .exit)) []) ⌝ }
+{
+    if fits(request.len(), REQUEST, reply.len(), REPLY) {
+        let caller = name_at(request, 0);
+        let presented = capability_at(request, 2);
+        let repeat = repeat_of(request);
+        let place = place_of(request);
+        let r = pick_unchecked(
+            bytes,
+            links,
+            words,
+            buffer,
+            caller,
+            presented,
+            repeat,
+            place,
+        );
+        put_picked(r, reply);
+        return r.code;
+    }
+    OUT_OF_RANGE
+}
