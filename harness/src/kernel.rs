@@ -1,4 +1,5 @@
-//! The verified kernel's C functions as safe functions on slices. All unsafe code is here, but for `stack`.
+//! The C functions of the verified kernel and of the loom drive as safe functions on slices. All
+//! unsafe code is here, but for `stack`.
 
 use crate::request::{Request, REPLY};
 use trials::raw::RawStore;
@@ -23,6 +24,19 @@ extern "C" {
         links_length: usize,
         words: *mut u32,
         words_length: usize,
+    ) -> u32;
+
+    fn store_window(
+        bytes: *const u8,
+        bytes_length: usize,
+        links: *const u16,
+        links_length: usize,
+        words: *const u32,
+        words_length: usize,
+        request: *const u32,
+        request_length: usize,
+        reply: *mut u32,
+        reply_length: usize,
     ) -> u32;
 }
 
@@ -54,6 +68,31 @@ macro_rules! entries {
 }
 
 entries!(store_call, store_step_unchecked);
+
+/// Declares entry points of the loom drive: the store's slices, the buffer, a pick's numbers and
+/// those of the reply.
+macro_rules! pick_entries {
+    ($($name:ident),*) => {
+        extern "C" {
+            $(fn $name(
+                bytes: *mut u8,
+                bytes_length: usize,
+                links: *mut u16,
+                links_length: usize,
+                words: *mut u32,
+                words_length: usize,
+                buffer: *mut u8,
+                buffer_length: usize,
+                request: *const u32,
+                request_length: usize,
+                reply: *mut u32,
+                reply_length: usize,
+            ) -> u32;)*
+        }
+    };
+}
+
+pick_entries!(drive_pick, drive_pick_unchecked);
 
 /// The check of a store: whether it is well formed.
 pub fn check(raw: &RawStore) -> bool {
@@ -168,7 +207,78 @@ pub fn call(
     reply_of(store_call, raw, request, buffer, scratch)
 }
 
-/// A store that the verified check has found well formed, and only `step` has changed since.
+/// The question for a window: its code; the reply is written into its slice.
+pub fn window(raw: &RawStore, request: &[u32], reply: &mut [u32]) -> u32 {
+    let RawStore { bytes, links, words } = raw;
+    // SAFETY: each pointer comes with its slice's length; the reply, which alone is written, is
+    // lent for writing.
+    unsafe {
+        store_window(
+            bytes.as_ptr(),
+            bytes.len(),
+            links.as_ptr(),
+            links.len(),
+            words.as_ptr(),
+            words.len(),
+            request.as_ptr(),
+            request.len(),
+            reply.as_mut_ptr(),
+            reply.len(),
+        )
+    }
+}
+
+/// The type of `drive_pick` and `drive_pick_unchecked`.
+type PickEntry = unsafe extern "C" fn(
+    *mut u8,
+    usize,
+    *mut u16,
+    usize,
+    *mut u32,
+    usize,
+    *mut u8,
+    usize,
+    *const u32,
+    usize,
+    *mut u32,
+    usize,
+) -> u32;
+
+fn enter_pick(
+    entry: PickEntry,
+    raw: &mut RawStore,
+    buffer: &mut [u8],
+    request: &[u32],
+    reply: &mut [u32],
+) -> u32 {
+    let RawStore { bytes, links, words } = raw;
+    // SAFETY: each pointer comes with its slice's length; the slices that are written are lent
+    // for writing, and no two overlap. `drive_pick_unchecked` is handed well-formed stores alone.
+    unsafe {
+        entry(
+            bytes.as_mut_ptr(),
+            bytes.len(),
+            links.as_mut_ptr(),
+            links.len(),
+            words.as_mut_ptr(),
+            words.len(),
+            buffer.as_mut_ptr(),
+            buffer.len(),
+            request.as_ptr(),
+            request.len(),
+            reply.as_mut_ptr(),
+            reply.len(),
+        )
+    }
+}
+
+/// A pick on any store: its code; the reply is written into its slice.
+pub fn pick(raw: &mut RawStore, buffer: &mut [u8], request: &[u32], reply: &mut [u32]) -> u32 {
+    enter_pick(drive_pick, raw, buffer, request, reply)
+}
+
+/// A store that the verified check has found well formed, and only `step`, `step_into` and `pick`
+/// have changed since.
 #[derive(Clone)]
 pub struct FormedStore(RawStore);
 
@@ -197,6 +307,11 @@ impl FormedStore {
         reply: &mut [u32; REPLY],
     ) -> u32 {
         enter(store_step_unchecked, &mut self.0, request, buffer, scratch, reply)
+    }
+
+    /// A pick on the store, which is not checked again: its code.
+    pub fn pick(&mut self, buffer: &mut [u8], request: &[u32], reply: &mut [u32]) -> u32 {
+        enter_pick(drive_pick_unchecked, &mut self.0, buffer, request, reply)
     }
 
     pub fn raw(&self) -> &RawStore {

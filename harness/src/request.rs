@@ -1,12 +1,22 @@
 //! A call as the verified kernel takes it: 20 numbers and the bytes that come with it; and its
-//! reply, 9 numbers, as an answer.
+//! reply, 9 numbers, as an answer. The question for a window and a pick of the loom drive have
+//! numbers alone.
 
 use reference::call::{Action, Answer, Call, Key, Name, Operation};
+use reference::drive::{Pick, Picked, Place, Repeat};
 
 /// The numbers of a request, in the order of the kernel's `Request`.
 pub const REQUEST: usize = 20;
 /// The numbers of a reply, in the order of the kernel's `Reply`.
 pub const REPLY: usize = 9;
+/// The numbers of a question for a window: the caller and the capability.
+pub const WINDOW_REQUEST: usize = 6;
+/// The numbers of its reply: the code, the window's start and its end.
+pub const WINDOW_REPLY: usize = 3;
+/// The numbers of a pick: those of the question, the repeat and the place.
+pub const PICK_REQUEST: usize = WINDOW_REQUEST + 5;
+/// The numbers of its reply: the code, the step, the place, and how many bytes were read.
+pub const PICK_REPLY: usize = 5;
 
 /// Everything that a call can bring; what a call does not use is what `filler` says.
 #[derive(Clone, Debug)]
@@ -98,4 +108,28 @@ pub fn answer(reply: [u32; REPLY], buffer: &[u8]) -> Answer {
         sum,
         bytes: buffer[..count as usize].to_vec(),
     }
+}
+
+/// The numbers of a question for the window of a capability that a caller presents.
+pub fn window_request(caller: Name, key: Key) -> [u32; WINDOW_REQUEST] {
+    let ([volume, serial], [of, number]) = (name(caller), name(key.name));
+    [volume, serial, of, number, key.p1, key.p2]
+}
+
+/// The numbers of a pick.
+pub fn pick_request(pick: &Pick) -> [u32; PICK_REQUEST] {
+    let Repeat { picks, counts, row } = pick.repeat;
+    let Place { next, steps } = pick.place;
+    let mut numbers = [0; PICK_REQUEST];
+    let (presented, rest) = numbers.split_at_mut(WINDOW_REQUEST);
+    presented.copy_from_slice(&window_request(pick.caller, pick.key));
+    rest.copy_from_slice(&[picks, counts, row, next, steps]);
+    numbers
+}
+
+/// What a pick's reply gives, with its bytes from the buffer's front.
+pub fn picked(reply: [u32; PICK_REPLY], buffer: &[u8]) -> Picked {
+    let [code, step, next, steps, count] = reply;
+    let bytes = buffer[..count as usize].to_vec();
+    Picked { code, step, place: Place { next, steps }, bytes }
 }

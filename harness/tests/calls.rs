@@ -2,13 +2,12 @@
 //! scratch, and the meaning of the whole store after each call.
 
 use harness::kernel;
-use harness::request::{answer, Request};
-use reference::call::{call_kind, Action, Answer, Call, Key, Name, Operation};
+use harness::pair::{call_raw, Answers, Pair};
+use reference::call::{Action, Answer, Call, Key, Name, Operation};
 use reference::claims::check_ledger;
 use reference::kernel::Store;
 use reference::ledger::Ledger;
 use reference::numbers::*;
-use std::collections::BTreeMap;
 use trials::coverage::refusals;
 use trials::damage::{damage, Kind};
 use trials::encode::encode;
@@ -17,87 +16,13 @@ use trials::layout::{BYTES, FIRST_CHILD, LINKS, MASTER, NEXT_CAP, P1, P2, WORDS}
 use trials::oracle::well_formed;
 use trials::profiles::PROFILES;
 use trials::random::Random;
-use trials::raw::{decode, RawStore};
+use trials::raw::RawStore;
 use trials::samples::{shaped, stores_of_runs, Shape};
 
 /// Calls of each half, of which there are two.
 const CALLS: u64 = 500_000;
 /// After how many calls the ledger is held to the store; after a done delete_cap, always.
 const CLAIMS: u32 = 20;
-
-/// How often each call got each answer; unknown numbers stand under 0.
-type Answers = BTreeMap<(u32, u32), u64>;
-
-/// A raw store and the store that it means.
-struct Pair {
-    raw: RawStore,
-    store: Store,
-}
-
-/// What refusals leave: 1 to 3 nothing changed, 4 one byte, later ones the fee's two words.
-fn moves_only_the_fee(code: u32, before: &RawStore, after: &RawStore) -> bool {
-    let bytes = differences(&before.bytes, &after.bytes);
-    let words = differences(&before.words, &after.words);
-    before.links == after.links
-        && match code {
-            ILL_FORMED..=NOT_RUNNING => bytes == 0 && words == 0,
-            CANNOT_PAY => bytes == 1 && words == 0,
-            _ => bytes == 0 && words <= 2,
-        }
-}
-
-fn differences<T: PartialEq>(before: &[T], after: &[T]) -> usize {
-    before.iter().zip(after).filter(|(b, a)| b != a).count()
-}
-
-/// The scratch after a call: all zero after a done delete_cap or rename_obj.
-fn scratch_after(number: u32, code: u32, scratch: &[u16]) -> Vec<u16> {
-    if code == DONE && [6, 7].contains(&number) {
-        vec![0; scratch.len()]
-    } else {
-        scratch.to_vec()
-    }
-}
-
-/// The buffer after a call: the answer's bytes at its front, and no later byte changed.
-fn buffer_after(bytes: &[u8], buffer: &[u8]) -> Vec<u8> {
-    let mut after = buffer.to_vec();
-    after[..bytes.len()].copy_from_slice(bytes);
-    after
-}
-
-/// Makes the call on the raw store alone; its answer, with buffer and scratch as `expected` has them.
-fn call_raw(raw: &mut RawStore, call: &Call, expected: &Answer, random: &mut Random) -> Answer {
-    let request = Request::new(call, random.bits() as u32);
-    let mut buffer = random.bytes(call.buffer);
-    let mut scratch: Vec<u16> = (0..call.scratch).map(|_| random.bits() as u16).collect();
-    let (lent, worked) = (buffer.clone(), scratch.clone());
-    let reply = kernel::call(raw, &request, &mut buffer, &mut scratch);
-    assert!(buffer == buffer_after(&expected.bytes, &lent), "buffer: {call:?}");
-    assert!(
-        scratch == scratch_after(request.numbers[0], expected.code, &worked),
-        "scratch: {call:?}"
-    );
-    answer(reply, &buffer)
-}
-
-impl Pair {
-    /// Makes the call on both, and compares all that it leaves; the answer's code.
-    fn call(&mut self, call: &Call, random: &mut Random, answers: &mut Answers) -> u32 {
-        let before = self.raw.clone();
-        let expected = self.store.run(call);
-        let given = call_raw(&mut self.raw, call, &expected, random);
-        assert_eq!(given, expected, "{call:?}");
-        assert!(
-            given.code == DONE || moves_only_the_fee(given.code, &before, &self.raw),
-            "changed by a refusal: {call:?}"
-        );
-        assert!(decode(&self.raw).as_ref() == Some(&self.store), "meaning: {call:?}");
-        let number = call_kind(call.operation.number()).map_or(0, |kind| kind.number);
-        *answers.entry((number, given.code)).or_default() += 1;
-        given.code
-    }
-}
 
 /// A run of each profile from the fresh store, laid out anew now and then, with the ledger
 /// beside it: it is fed each call and whether the verified kernel did it.

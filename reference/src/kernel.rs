@@ -264,12 +264,18 @@ impl Store {
         Ok(())
     }
 
-    /// Refusals 5 and 6 of a call that presents a capability, then the call itself.
-    fn act(&mut self, caller: Name, key: Key, action: &Action) -> Outcome {
+    /// Refusals 5 and 6: the capability that is presented, which must have the right.
+    fn presented(&self, caller: Name, key: Key, right: u32) -> Result<Place, Refusal> {
         let at = self.find(caller, key).ok_or(Refusal::NotFound)?;
-        let right = call_kind(action.number()).map_or(0, |kind| kind.right);
         let rights = self.capability(at)?.rights;
         refuse_if(rights & right == 0, Refusal::RightMissing)?;
+        Ok(at)
+    }
+
+    /// A call that presents a capability: refusals 5 and 6, then the call itself.
+    fn act(&mut self, caller: Name, key: Key, action: &Action) -> Outcome {
+        let right = call_kind(action.number()).map_or(0, |kind| kind.right);
+        let at = self.presented(caller, key, right)?;
         match action {
             Action::Read { start, end } => self.read(at, *start, *end),
             Action::Write { start, end, data } => self.write(at, *start, *end, data),
@@ -457,6 +463,20 @@ impl Store {
 
 fn new_capability(capability: Key) -> Answer {
     Answer { capability, ..Answer::default() }
+}
+
+/// 02's question, which is free and changes nothing.
+impl Store {
+    /// The start and end of the window "of a capability presented by a caller, under READ, with
+    /// read's 1, 2, 3, 5 and 6".
+    pub fn window(&self, caller: Name, key: Key) -> Result<(u32, u32), Refusal> {
+        let ranges = in_range(caller) && in_range(key.name);
+        refuse_if(!ranges, Refusal::OutOfRange)?;
+        self.check_caller(caller)?;
+        let at = self.presented(caller, key, right::READ)?;
+        let found = self.capability(at)?;
+        Ok((found.start, found.end))
+    }
 }
 
 /// Look-ups that succeed on every well-formed store; they refuse instead of panicking.

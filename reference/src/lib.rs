@@ -1,11 +1,13 @@
-//! An independent reference of the hall store: a second reading of the scope paper ("01") over
-//! ordinary maps, to compare the verified kernel and its program with.
+//! An independent reference of the hall store: a second reading of the scope paper ("01") and of
+//! its changes ("02") over ordinary maps, to compare the verified kernel and its program with.
 //!
-//! `numbers` has 01's numbers by name; `call` and `kernel` are the calls and the store; `script`
-//! runs 01's scripts (`hall-reference`); `ledger` and `claims` check demand 3 beside a run.
+//! `numbers` has the papers' numbers by name; `call` and `kernel` are the calls and the store;
+//! `script` runs 01's scripts (`hall-reference`); `ledger` and `claims` check demand 3 beside a
+//! run. `drive` is 02's loom drive above the store, in exact rational arithmetic.
 
 pub mod call;
 pub mod claims;
+pub mod drive;
 pub mod kernel;
 pub mod ledger;
 pub mod numbers;

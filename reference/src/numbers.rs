@@ -1,5 +1,6 @@
-//! 01's numbers by name, each written once here: answers and limits as in the verified kernel
-//! (crates/values/src/code.rt and limit.rt, held to these by a test), rights, and the longest line.
+//! 01's numbers by name and those of 02, each written once here: answers and limits as in the
+//! verified code (crates/values/src/code.rt and limit.rt, crates/product_drive/src/limit.rt, held
+//! to these by a test), rights, and the longest line.
 
 /// The call was done.
 pub const DONE: u32 = 0;
@@ -35,9 +36,11 @@ pub const BOX_FULL: u32 = 14;
 pub const BOX_EMPTY: u32 = 15;
 /// "not terminated, or sum 0"
 pub const NOT_REVIVABLE: u32 = 16;
+/// 02, CR 3: "the window is not N × W bytes long"
+pub const WRONG_LENGTH: u32 = 17;
 
-/// 01's refusals 2 to 16. Refusal 1 has no case: a store over maps that began fresh is always
-/// well formed.
+/// 01's refusals 2 to 16, and the loom drive's own of 02, 17. Refusal 1 has no case: a store over
+/// maps that began fresh is always well formed.
 #[repr(u32)]
 #[derive(Clone, Copy, Debug, PartialEq, Eq, PartialOrd, Ord)]
 pub enum Refusal {
@@ -56,10 +59,11 @@ pub enum Refusal {
     BoxFull = BOX_FULL,
     BoxEmpty = BOX_EMPTY,
     NotRevivable = NOT_REVIVABLE,
+    WrongLength = WRONG_LENGTH,
 }
 
 impl Refusal {
-    /// 01's number for the refusal.
+    /// The papers' number for the refusal.
     pub fn number(self) -> u32 {
         self as u32
     }
@@ -98,6 +102,12 @@ pub const MAX_WORD: u32 = 4_294_967_295;
 pub const DEFAULT_LIMIT: u32 = MAX_WORD;
 /// "lines of at most 2,048 bytes ended by byte 10, which is not counted"
 pub const MAX_LINE: usize = 2_048;
+/// 02, CR 3: "N picks, 1 to 65,535"
+pub const MAX_PICKS: u32 = 65_535;
+/// "C motor counts, 0 to 16,777,215"
+pub const MAX_COUNTS: u32 = 16_777_215;
+/// "W bytes a row, 1 to 64"
+pub const MAX_ROW: u32 = 64;
 
 /// "Rights add up": the thirteen, and none for a call that presents no capability.
 pub mod right {

@@ -11,7 +11,7 @@ use reference::script;
 
 /// The generator of one run.
 pub struct Generator {
-    random: Random,
+    pub(crate) random: Random,
     profile: Profile,
     /// Whether the call being made may have faults.
     careless: bool,
@@ -33,7 +33,12 @@ impl Generator {
         [self.random.between(least, largest), self.drawn_p1(), self.word()]
     }
 
-    fn fault(&mut self) -> bool {
+    /// Draws whether the next call may have faults.
+    pub(crate) fn draw_care(&mut self) {
+        self.careless = self.random.chance(self.profile.careless);
+    }
+
+    pub(crate) fn fault(&mut self) -> bool {
         self.careless && self.random.chance(self.profile.fault)
     }
 
@@ -68,7 +73,7 @@ impl Generator {
     }
 
     fn any_call(&mut self, store: &Store) -> Call {
-        self.careless = self.random.chance(self.profile.careless);
+        self.draw_care();
         let number = self.number();
         let caller = self.caller(store, number);
         let operation = match number {
@@ -109,7 +114,7 @@ impl Generator {
     }
 
     /// The length of an answer buffer or a scratch of which so many are needed.
-    fn length(&mut self, needed: usize) -> usize {
+    pub(crate) fn length(&mut self, needed: usize) -> usize {
         if self.fault() {
             needed - 1 - self.random.below(2) as usize
         } else {
@@ -138,7 +143,7 @@ impl Generator {
     }
 
     /// The caller: mostly a running process that can pay.
-    fn caller(&mut self, store: &Store, number: u32) -> Name {
+    pub(crate) fn caller(&mut self, store: &Store, number: u32) -> Name {
         let fee = call_kind(number).map_or(0, |kind| kind.fee);
         let names = |wanted: &dyn Fn(&Object) -> bool| -> Vec<Name> {
             let wanted = store.objects.iter().filter(|(_, object)| wanted(object));
@@ -216,7 +221,7 @@ impl Generator {
     }
 
     /// The capability to present: mostly one that the call can be done with.
-    fn target(&mut self, store: &Store, caller: Name, number: u32) -> Option<Place> {
+    pub(crate) fn target(&mut self, store: &Store, caller: Name, number: u32) -> Option<Place> {
         let right = call_kind(number).map_or(0, |kind| kind.right);
         let lacking = self.fault() || self.fault();
         let unsuited = self.fault() || self.fault();
@@ -252,7 +257,7 @@ impl Generator {
     }
 
     /// How the capability is presented: unlocked the right way, or spoilt.
-    fn present(&mut self, store: &Store, caller: Name, place: Option<Place>) -> Key {
+    pub(crate) fn present(&mut self, store: &Store, caller: Name, place: Option<Place>) -> Key {
         let (name, p1) = place.unwrap_or((self.drawn_name(), self.drawn_p1()));
         let found = place.and_then(|place| store.capabilities.get(&place));
         let mut key = Key { name, p1, p2: found.map_or(0, |capability| capability.p2) };

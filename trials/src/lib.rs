@@ -1,8 +1,9 @@
 //! What is tried on the reference and on the verified kernel.
 //!
 //! `generate`, with `profiles` and `random`, makes random calls and scripts (`make-script`);
-//! `conditions`, `scenes` and `coverage` count what they meet (`coverage`). `edges` is 01's edges
-//! as scripts; `examples` prints answered scripts as definitions (`script-table`).
+//! `conditions`, `scenes` and `coverage` count what they meet (`coverage`). `picks` makes picks of
+//! the loom drive. `edges` is 01's edges as scripts; `examples` prints answered scripts as
+//! definitions (`script-table`).
 //!
 //! `raw` is a store in slices (`layout` has the offsets, `encode` lays a store out), `oracle` and
 //! `plain` check that slices are well formed, `damage` and `crafted` spoil them, and `samples`
@@ -18,6 +19,7 @@ pub mod examples;
 pub mod generate;
 pub mod layout;
 pub mod oracle;
+pub mod picks;
 pub mod plain;
 pub mod profiles;
 pub mod random;

@@ -1,10 +1,11 @@
-//! The reference's answers, limits and rights are those of the verified kernel, by name and number.
+//! The reference's answers, limits and rights are those of the verified code, by name and number.
 
 use std::collections::BTreeMap;
 
 const REFERENCE: &str = include_str!("../../reference/src/numbers.rs");
 const CODES: &str = include_str!("../../crates/values/src/code.rt");
 const LIMITS: &str = include_str!("../../crates/values/src/limit.rt");
+const DRIVE: &str = include_str!("../../crates/product_drive/src/limit.rt");
 const RIGHTS: &str = include_str!("../../crates/values/src/rights.rt");
 
 /// A line `pub const NAME: type = value;`: the name and the value.
@@ -25,17 +26,20 @@ fn constants(text: &str) -> BTreeMap<&str, u64> {
 }
 
 #[test]
-fn numbers_are_the_kernels() {
+fn numbers_are_the_same() {
     let (outer, rights) = REFERENCE.split_once("pub mod right").expect("the rights");
-    let mut kernel = constants(CODES);
-    assert_eq!(kernel.len(), 17);
-    kernel.extend(constants(LIMITS));
+    let mut verified = constants(CODES);
+    assert_eq!(verified.len(), 18);
+    verified.extend(constants(LIMITS));
+    let drive = constants(DRIVE);
+    assert_eq!(drive.len(), 3);
+    verified.extend(drive);
     // of a line's bytes, which the reference has by their type
-    assert_eq!(kernel.remove("MAX_BYTE"), Some(u64::from(u8::MAX)));
+    assert_eq!(verified.remove("MAX_BYTE"), Some(u64::from(u8::MAX)));
     let mut ours = constants(outer);
     // of scripts, which `values` knows nothing of
     assert_eq!(ours.remove("MAX_LINE"), Some(2_048));
-    assert_eq!(ours, kernel);
+    assert_eq!(ours, verified);
     assert_eq!(constants(rights), constants(RIGHTS));
     assert_eq!(constants(rights).len(), 14);
 }

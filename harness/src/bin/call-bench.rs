@@ -1,15 +1,15 @@
 //! Times the verified `step` beside the reference, in one run: lists of calls of one kind on a
 //! small and on a full store, and deletes of many descendants. Prints medians and ratios.
 
+use harness::bench::{call, keys, median, processes, time};
 use harness::kernel::FormedStore;
 use harness::request::Request;
 use reference::call::{Action, Call, Key, Name, Operation};
 use reference::kernel::{Object, Store};
-use reference::numbers::{DONE, MAX_RIGHTS, MAX_WORD, MIN_BUFFER, MIN_SCRATCH};
-use std::time::Instant;
+use reference::numbers::{DONE, MAX_RIGHTS, MAX_WORD};
 use trials::encode::encode;
 use trials::random::Random;
-use trials::samples::{shaped, Shape};
+use trials::samples::Shape;
 
 const ROUNDS: usize = 301;
 
@@ -28,40 +28,8 @@ fn name(serial: u32) -> Name {
     Name { volume: serial % 4, serial }
 }
 
-/// The processes of a store, each with its tree's keys: the master, then the others.
-fn keys(store: &Store, name: Name) -> Vec<Key> {
-    let key = |p1, p2| Key { name, p1, p2 };
-    let mut keys: Vec<(Option<u32>, Key)> =
-        store.tree(name).map(|(p1, c)| (c.parent, key(p1, c.p2))).collect();
-    keys.sort_by_key(|(parent, _)| parent.is_some());
-    keys.into_iter().map(|(_, key)| key).collect()
-}
-
-/// Processes with cash and no mark, each with a tree whose p1 have no top bit.
-fn store(objects: u32, tree: u32, size: usize, shape: Shape) -> Store {
-    let mut random = Random::new(7);
-    let mut store = shaped(objects, size, tree, shape, &mut random);
-    for object in store.objects.values_mut() {
-        object.cash = 10_000;
-    }
-    let low = |p1: u32| p1 & 0x7fff_ffff;
-    store.capabilities = store
-        .capabilities
-        .into_iter()
-        .map(|((name, p1), mut capability)| {
-            capability.parent = capability.parent.map(low);
-            ((name, low(p1)), capability)
-        })
-        .collect();
-    store
-}
-
 fn on(key: Key, action: Action) -> Operation {
     Operation::On(key, action)
-}
-
-fn call(caller: Name, operation: Operation) -> Call {
-    Call { caller, operation, buffer: MIN_BUFFER, scratch: MIN_SCRATCH }
 }
 
 fn case(name: String, store: &Store, calls: Vec<Call>) -> Case {
@@ -139,7 +107,7 @@ fn leaf(store: &Store, keys: &[Key]) -> Key {
 /// receive and revive, of processes that have mail or are terminated; derive_cap and make_obj,
 /// where there is room.
 fn prepared(title: &str, objects: u32, tree: u32, cases: &mut Vec<Case>) {
-    let base = store(objects, tree, 512, Shape::Random);
+    let base = processes(objects, tree, 512, Shape::Random);
     let names: Vec<Name> = base.objects.keys().copied().collect();
     let mut mailed = base.clone();
     for object in mailed.objects.values_mut() {
@@ -185,7 +153,7 @@ fn make_and_delete(cases: &mut Vec<Case>) {
 
 /// One delete of n descendants of a capability that is no master.
 fn deletes(shape: Shape, n: u32, cases: &mut Vec<Case>) {
-    let mut base = store(1, n, 512, shape);
+    let mut base = processes(1, n, 512, shape);
     let boss = Name { volume: 3, serial: 65_535 };
     base.objects.insert(boss, Object { process: true, cash: 1000, ..Object::default() });
     let master = Key { name: boss, p1: 1, p2: 1 };
@@ -201,12 +169,6 @@ fn deletes(shape: Shape, n: u32, cases: &mut Vec<Case>) {
     let key = keys(&base, name(0))[0];
     let delete = vec![call(boss, on(key, Action::DeleteCap))];
     cases.push(case(format!("delete of {n} in all, {shape:?}"), &base, delete));
-}
-
-fn time(run: impl FnOnce()) -> u64 {
-    let start = Instant::now();
-    run();
-    u64::try_from(start.elapsed().as_nanos()).unwrap_or(u64::MAX)
 }
 
 impl Case {
@@ -227,18 +189,14 @@ impl Case {
 
     /// The medians of one call, in nanoseconds.
     fn medians(&self) -> [f64; 2] {
-        self.times.each_ref().map(|times| {
-            let mut sorted = times.clone();
-            sorted.sort_unstable();
-            sorted[sorted.len() / 2] as f64 / self.calls.len() as f64
-        })
+        self.times.each_ref().map(|times| median(times) / self.calls.len() as f64)
     }
 }
 
 fn main() {
     let mut cases = Vec::new();
-    kinds("4 objects of 8", &store(4, 8, 512, Shape::Random), &mut cases);
-    kinds("64 objects of 8", &store(64, 8, 512, Shape::Random), &mut cases);
+    kinds("4 objects of 8", &processes(4, 8, 512, Shape::Random), &mut cases);
+    kinds("64 objects of 8", &processes(64, 8, 512, Shape::Random), &mut cases);
     prepared("4 objects of 8", 4, 8, &mut cases);
     prepared("32 objects of 8", 32, 8, &mut cases);
     make_and_delete(&mut cases);

@@ -1,10 +1,10 @@
 //! Times the verified check beside the plain check in Rust, in one run, on full stores of
 //! several shapes and their halves. Prints medians and ratios.
 
+use harness::bench::{median, time};
 use harness::kernel;
 use reference::kernel::Store;
 use std::hint::black_box;
-use std::time::Instant;
 use trials::encode::encode;
 use trials::plain;
 use trials::random::Random;
@@ -51,25 +51,12 @@ fn cases(random: &mut Random) -> Vec<Case> {
     cases
 }
 
-/// One check's time in nanoseconds; the store is well formed.
-fn time(check: Check, raw: &RawStore) -> u64 {
-    let start = Instant::now();
-    assert!(check(black_box(raw)));
-    u64::try_from(start.elapsed().as_nanos()).unwrap_or(u64::MAX)
-}
-
-fn median(times: &[u64]) -> f64 {
-    let mut sorted = times.to_vec();
-    sorted.sort_unstable();
-    sorted[sorted.len() / 2] as f64
-}
-
 fn main() {
     let mut cases = cases(&mut Random::new(1));
     for _ in 0..ROUNDS {
         for case in &mut cases {
             for (check, times) in CHECKS.iter().zip(&mut case.times) {
-                times.push(time(*check, &case.raw));
+                times.push(time(|| assert!(check(black_box(&case.raw)))));
             }
         }
     }

@@ -1,12 +1,14 @@
 //! How deep the verified functions go on the stack: the check on several shapes of tree, and each
-//! call on a chain of capabilities, 512 deep where the call needs no free one.
+//! call on a chain of capabilities, 512 deep where the call needs no free one; a question and a pick
+//! on that chain.
 
 use harness::kernel::{self, FormedStore};
-use harness::request::Request;
+use harness::request::{pick_request, window_request, Request, PICK_REPLY, WINDOW_REPLY};
 use harness::stack::depth;
 use reference::call::{Action, Call, Key, Name, Operation};
+use reference::drive::{Pick, Place, Repeat};
 use reference::kernel::{Capability, Message, Object, Store};
-use reference::numbers::{DONE, MAX_RIGHTS, MAX_SIZE, MAX_WORD, MIN_BUFFER, MIN_SCRATCH};
+use reference::numbers::*;
 use trials::encode::encode;
 use trials::random::Random;
 use trials::raw::RawStore;
@@ -98,6 +100,23 @@ fn depths(raw: &RawStore, operation: Operation) -> [usize; 2] {
     [whole, step]
 }
 
+/// The depths of a pick at the lowest capability, checked and unchecked, and of the question.
+fn pick_depths(store: &Store) -> [usize; 3] {
+    let (_, key) = ends(store);
+    let repeat = Repeat { picks: MAX_SIZE / MAX_ROW, counts: MAX_COUNTS, row: MAX_ROW };
+    let place = Place::before(repeat.picks, &repeat);
+    let pick = pick_request(&Pick { caller: NAME, key, repeat, place, buffer: MIN_BUFFER });
+    let asked = window_request(NAME, key);
+    let mut raw = encode(store, &mut Random::new(4));
+    let mut formed = FormedStore::new(raw.clone()).expect("a well-formed store");
+    let (mut buffer, mut reply) = (vec![0; MIN_BUFFER], [0; PICK_REPLY]);
+    let mut window = [0; WINDOW_REPLY];
+    let whole = depth(|| assert_eq!(kernel::pick(&mut raw, &mut buffer, &pick, &mut reply), DONE));
+    let step = depth(|| assert_eq!(formed.pick(&mut buffer, &pick, &mut reply), DONE));
+    let question = depth(|| assert_eq!(kernel::window(&raw, &asked, &mut window), DONE));
+    [whole, step, question]
+}
+
 fn main() {
     let mut random = Random::new(2);
     println!("bytes of stack below the Rust function that makes the call, its own included");
@@ -126,4 +145,8 @@ fn main() {
             println!("{number:<24}{whole:>16}{step:>24}");
         }
     }
+    let [whole, step, question] = pick_depths(&full);
+    println!("\n{:40}{whole:>8}", "drive_pick");
+    println!("{:40}{step:>8}", "drive_pick_unchecked");
+    println!("{:40}{question:>8}", "store_window");
 }

@@ -1,0 +1,152 @@
+//! The verified code and the reference side by side: a call, a question or a pick is made on both,
+//! and all that it gives and leaves is compared.
+
+use crate::kernel::{self, FormedStore};
+use crate::request::{
+    answer, pick_request, picked, window_request, Request, PICK_REPLY, WINDOW_REPLY,
+};
+use reference::call::{call_kind, Answer, Call, Key, Name};
+use reference::drive::{Pick, Picked};
+use reference::kernel::Store;
+use reference::numbers::*;
+use std::collections::BTreeMap;
+use trials::random::Random;
+use trials::raw::{decode, RawStore};
+
+/// How often each call got each answer; unknown numbers stand under 0.
+pub type Answers = BTreeMap<(u32, u32), u64>;
+
+/// A raw store and the store that it means.
+pub struct Pair {
+    pub raw: RawStore,
+    pub store: Store,
+}
+
+/// What refusals leave: 1 to 3 nothing changed, 4 one byte, later ones the fee's two words; a done
+/// read leaves those, too.
+fn moves_only_the_fee(code: u32, before: &RawStore, after: &RawStore) -> bool {
+    let bytes = differences(&before.bytes, &after.bytes);
+    let words = differences(&before.words, &after.words);
+    before.links == after.links
+        && match code {
+            ILL_FORMED..=NOT_RUNNING => bytes == 0 && words == 0,
+            CANNOT_PAY => bytes == 1 && words == 0,
+            _ => bytes == 0 && words <= 2,
+        }
+}
+
+fn differences<T: PartialEq>(before: &[T], after: &[T]) -> usize {
+    before.iter().zip(after).filter(|(b, a)| b != a).count()
+}
+
+/// The scratch after a call: all zero after a done delete_cap or rename_obj.
+fn scratch_after(number: u32, code: u32, scratch: &[u16]) -> Vec<u16> {
+    if code == DONE && [6, 7].contains(&number) {
+        vec![0; scratch.len()]
+    } else {
+        scratch.to_vec()
+    }
+}
+
+/// The buffer after a call: the answer's bytes at its front, and no later byte changed.
+fn buffer_after(bytes: &[u8], buffer: &[u8]) -> Vec<u8> {
+    let mut after = buffer.to_vec();
+    after[..bytes.len()].copy_from_slice(bytes);
+    after
+}
+
+/// Makes the call on the raw store alone; its answer, with buffer and scratch as `expected` has them.
+pub fn call_raw(raw: &mut RawStore, call: &Call, expected: &Answer, random: &mut Random) -> Answer {
+    let request = Request::new(call, random.bits() as u32);
+    let mut buffer = random.bytes(call.buffer);
+    let mut scratch: Vec<u16> = (0..call.scratch).map(|_| random.bits() as u16).collect();
+    let (lent, worked) = (buffer.clone(), scratch.clone());
+    let reply = kernel::call(raw, &request, &mut buffer, &mut scratch);
+    assert!(buffer == buffer_after(&expected.bytes, &lent), "buffer: {call:?}");
+    assert!(
+        scratch == scratch_after(request.numbers[0], expected.code, &worked),
+        "scratch: {call:?}"
+    );
+    answer(reply, &buffer)
+}
+
+/// Asks the raw store alone for a window, which changes nothing: the code, start and end.
+pub fn window_raw(raw: &RawStore, caller: Name, key: Key) -> [u32; WINDOW_REPLY] {
+    let before = raw.clone();
+    let mut reply = [MAX_WORD; WINDOW_REPLY];
+    let code = kernel::window(raw, &window_request(caller, key), &mut reply);
+    assert_eq!(code, reply[0], "the code is returned, too");
+    assert!(*raw == before, "changed by a question: {caller:?} {key:?}");
+    reply
+}
+
+/// Makes the pick by a function that takes the buffer, the request and the reply: it gives what is
+/// expected, and leaves every byte of the buffer so.
+pub fn pick_by(
+    enter: impl FnOnce(&mut [u8], &[u32], &mut [u32]) -> u32,
+    pick: &Pick,
+    expected: &Picked,
+    random: &mut Random,
+) {
+    let lent = random.bytes(pick.buffer);
+    let (mut buffer, mut reply) = (lent.clone(), [MAX_WORD; PICK_REPLY]);
+    let code = enter(&mut buffer, &pick_request(pick), &mut reply);
+    assert_eq!(code, reply[0], "the code is returned, too");
+    assert_eq!(picked(reply, &buffer), *expected, "{pick:?}");
+    assert!(buffer == buffer_after(&expected.bytes, &lent), "buffer: {pick:?}");
+}
+
+impl Pair {
+    /// Makes the call on both, and compares all that it leaves; the answer's code.
+    pub fn call(&mut self, call: &Call, random: &mut Random, answers: &mut Answers) -> u32 {
+        let before = self.raw.clone();
+        let expected = self.store.run(call);
+        let given = call_raw(&mut self.raw, call, &expected, random);
+        assert_eq!(given, expected, "{call:?}");
+        assert!(
+            given.code == DONE || moves_only_the_fee(given.code, &before, &self.raw),
+            "changed by a refusal: {call:?}"
+        );
+        assert!(decode(&self.raw).as_ref() == Some(&self.store), "meaning: {call:?}");
+        let number = call_kind(call.operation.number()).map_or(0, |kind| kind.number);
+        *answers.entry((number, given.code)).or_default() += 1;
+        given.code
+    }
+
+    /// Asks both for a window, and compares; the answer's code.
+    pub fn window(&self, caller: Name, key: Key) -> u32 {
+        let expected = match self.store.window(caller, key) {
+            Ok((start, end)) => [DONE, start, end],
+            Err(refusal) => [refusal.number(), 0, 0],
+        };
+        assert_eq!(window_raw(&self.raw, caller, key), expected, "{caller:?} {key:?}");
+        expected[0]
+    }
+
+    /// Makes the pick on both, and on a copy of the slices unchecked, and compares all that it
+    /// leaves. No refusal is paid for.
+    pub fn pick(&mut self, pick: &Pick, random: &mut Random) -> Picked {
+        let before = self.raw.clone();
+        let mut formed = FormedStore::new(before.clone()).expect("a well-formed store");
+        let expected = pick.run(&mut self.store);
+        let raw = &mut self.raw;
+        pick_by(
+            |buffer, request, reply| kernel::pick(raw, buffer, request, reply),
+            pick,
+            &expected,
+            random,
+        );
+        pick_by(
+            |buffer, request, reply| formed.pick(buffer, request, reply),
+            pick,
+            &expected,
+            random,
+        );
+        assert!(*formed.raw() == self.raw, "otherwise unchecked: {pick:?}");
+        let changes = [DONE, CANNOT_PAY].contains(&expected.code);
+        assert!(changes || self.raw == before, "changed by a refusal: {pick:?}");
+        assert!(moves_only_the_fee(expected.code, &before, &self.raw), "changed more: {pick:?}");
+        assert!(decode(&self.raw).as_ref() == Some(&self.store), "meaning: {pick:?}");
+        expected
+    }
+}
