@@ -72,6 +72,8 @@ module _ (p : Repeat) (d : Place) (n : ℕ) (e : Event) where
         let some = ranges p d (D .range) .some in
         let sum = up-to-it D in
         record {
+          low = placed p d (D .range) .low;
+          high = placed p d (D .range) .high;
           at-most = rw sum (up-below p some (d .next));
           less-than-one = rw sum (up-above p some (d .next));
           total = λ last. sum ∙ ap (upTo p) last ∙ up-all p some;

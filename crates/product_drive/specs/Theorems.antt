@@ -59,6 +59,8 @@ stepsSince n (e ∷ es) = stepsSince (stepsWith n e) es
 
 -- a done pick i, after which the repeat's steps up to it are `sum`
 pub record TakesUp (p : Repeat) (i sum : ℕ) (place : Place) : Type 0 where
+  pub low : 1 ≤ i
+  pub high : i ≤ p .picks
   -- not above the exact i × C / N, and below it by less than one count
   pub at-most : sum * p .picks ≤ i * p .counts
   pub less-than-one : i * p .counts < (sum + 1) * p .picks
