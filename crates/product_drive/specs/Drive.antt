@@ -67,7 +67,7 @@ placeAfter p d = elim (eqb (d .next) (p .picks)) [
 
 -- ---- the row
 
--- "the window is .. N × W bytes long"
+-- the window is N × W bytes long
 unfoldable pub holdsRepeat : Window → Repeat → Bool
 holdsRepeat v p = eqb (v .end - v .start) (p .picks * p .row)
 
