@@ -22,9 +22,10 @@ use Rattle.rules.proofs.Tests.{by-bool}
 use Rattle.layout.specs.Rows.{flagOf, countOf, lengthOf, textIn, masterOf, ownerOf, cashOf, sumOf}
 use Rattle.layout.specs.View.{isProcess, messages, view}
 use Rattle.layout.specs.WellFormed.{Plain}
-use Rattle.layout.proofs.Shown.{process-yes, process-is, process-lives, process-flag, cap-object, cash-here, box-here}
+use Rattle.layout.proofs.Shown.{process-is, process-lives, process-flag, cap-object, cash-here, box-here}
 use Rattle.layout.proofs.Lengths.{box-length}
 use Rattle.call_steps.specs.Run.{Process, Held, MeetsPlain, over, handedOver}
+use Rattle.call_steps.proofs.Process.{is-process}
 use Rattle.call_steps.proofs.Meeting.{takes, DoesPlain, plain-settled}
 use Rattle.call_steps.proofs.Holding.{target-of}
 use Rattle.call_mail.specs.Runs.{messageSlot, SendAsks, sendStop, sentBytes, sentWords, sendRun}
@@ -65,7 +66,7 @@ module _ {b l w : List ℕ} (f : Plain b l w) where
       → cashOf w me + sumOf w (oldest me) ≤ 4294967295
   unfolding moneyIn allCash allBoxes sumsIn messages
   receive-fits {me} m n e =
-      let p = process-yes (masterOf l) (flagOf b) me (m .live) (m .flag) in
+      let p = is-process m in
       let box : view b l w .box me ≡ messages (suc n) (lengthOf b) (sumOf w) (textIn b) (oldest me) =
       box-here b l w me p ∙ ap (λ k. messages k (lengthOf b) (sumOf w) (textIn b) (oldest me)) e in
       let part : sumOf w (oldest me) ≤ sumsIn (view b l w .box me) = rw box (omega arith) in
@@ -80,7 +81,7 @@ module _ {b l w : List ℕ} (f : Plain b l w) where
 
   pub receive-asks : {me : ℕ} (buffer : List ℕ) → Process b l me → 256 ≤ length buffer → ReceiveAsks b w buffer me
   receive-asks {me} buffer m room =
-      let p = process-yes (masterOf l) (flagOf b) me (m .live) (m .flag) in
+      let p = is-process m in
       let first : messageSlot me 0 ≡ oldest me = omega arith in
       record {
         bytes = f .sized .bytes;
@@ -103,7 +104,7 @@ module _ {b l w : List ℕ} (f : Plain b l w) where
     send-stop : Process b l me → sendStop b l w me k (c .sum) ≡ first (sendRefuses s c me k)
     unfolding sendStop sendRefuses first _when_
     send-stop m =
-        let cash = cash-here b l w me (process-yes (masterOf l) (flagOf b) me (m .live) (m .flag)) in
+        let cash = cash-here b l w me (is-process m) in
         by-bool (isProcess (masterOf l) (flagOf b) o)
         (λ e. rw (
           cap-object b l w k,
@@ -166,7 +167,7 @@ module _ {b l w : List ℕ} (f : Plain b l w) where
 
     receive-stop : Process b l me → receiveStop b me ≡ first (receiveRefuses s c me k)
     unfolding receiveStop receiveRefuses
-    receive-stop m = rw (box-length b l w me (process-yes (masterOf l) (flagOf b) me (m .live) (m .flag)))
+    receive-stop m = rw (box-length b l w me (is-process m))
 
     -- the state after the oldest message, where these are the other ones
     abbrev received : List Message → State
@@ -190,7 +191,7 @@ module _ {b l w : List ℕ} (f : Plain b l w) where
           ≡ handsOver (sumOf w (oldest me)) (oldestBytes b me) (received others)
       unfolding receiveDoes messages
       takes-oldest = ap (receiveDoes s c me k)
-          (box-here b l w me (process-yes (masterOf l) (flagOf b) me (m .live) (m .flag))
+          (box-here b l w me (is-process m)
           ∙ ap (λ i. messages i (lengthOf b) (sumOf w) (textIn b) (oldest me)) some)
 
       receive-does : DoesPlain l s c me k receive

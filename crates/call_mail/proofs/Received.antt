@@ -14,9 +14,10 @@ use Rattle.layout.specs.Rows.{masterOf, cashOf, sumOf}
 use Rattle.layout.specs.View.{isProcess, messages, view}
 use Rattle.layout.specs.WellFormed.{Sized, Cells}
 use Rattle.layout.proofs.Field.{at-is, field-other, field-same, region-other}
-use Rattle.layout.proofs.Shown.{process-yes, cash-here}
+use Rattle.layout.proofs.Shown.{cash-here}
 use Rattle.layout.proofs.Frame.{cash-same-at, marks-same}
 use Rattle.call_steps.specs.Run.{Process}
+use Rattle.call_steps.proofs.Process.{is-process}
 use Rattle.call_mail.specs.Runs.{messageSlot, textFrom, oldest, movedTexts, movedBytes, receivedBytes, receivedWords}
 use Rattle.call_mail.proofs.Copying.{length-copied, copied-in, copied-out, field-copied, field-copied-at}
 use Rattle.call_mail.proofs.Copying.{field-shifted, region-copied}
@@ -29,7 +30,7 @@ module _ (b l w : List ℕ) (Z : Sized b l w) (C : Cells b l) (me : ℕ) (M : Pr
   i = oldest me
 
   process : isProcess (masterOf l) (flagOf b) me ≡ true
-  process = process-yes (masterOf l) (flagOf b) me (M .live) (M .flag)
+  process = is-process M
 
   few : suc n ≤ 4
   few = omega (arith, C .count me process)

@@ -18,10 +18,11 @@ use Rattle.layout.specs.WellFormed.{Sized, Cells}
 use Rattle.layout.proofs.Field.{at-is}
 use Rattle.layout.proofs.Puts.{Put, put, puts, Within, beside, length-puts, field-puts, field-kept, region-kept}
 use Rattle.layout.proofs.Puts.{head-puts}
-use Rattle.layout.proofs.Shown.{process-yes, cash-here, marks-here, box-here}
+use Rattle.layout.proofs.Shown.{cash-here, marks-here, box-here}
 use Rattle.layout.proofs.Frame.{cash-same-at, marks-same-at}
 use Rattle.call_steps.specs.Run.{Process}
 use Rattle.call_steps.specs.Copies.{copied}
+use Rattle.call_steps.proofs.Process.{is-process}
 use Rattle.call_mail.specs.Runs.{messageSlot, textFrom}
 use Rattle.call_mail.proofs.Copying.{length-copied, copied-in, copied-out, field-copied, region-copied}
 use Rattle.call_mail.proofs.Boxes.{messageAt, message-is, text-is, text-same, messages-moved, messages-more}
@@ -144,7 +145,7 @@ module _ (b l w : List ℕ) (Z : Sized b l w) (C : Cells b l) (text : List ℕ) 
       λ k. record { bytes = u k; sum = s k }
 
   process : isProcess (masterOf l) (flagOf b) o ≡ true
-  process = process-yes (masterOf l) (flagOf b) o (P .live) (P .flag)
+  process = is-process P
 
   counted : countOf b′ o ≡ suc (countOf b o)
   counted =
@@ -181,7 +182,7 @@ module _ (b l w : List ℕ) (Z : Sized b l w) (C : Cells b l) (text : List ℕ) 
   sent-cash =
       let f : flagOf b′ ≡ flagOf b = sent-boxed .flag in
       let h : isProcess (masterOf l) (flagOf b) me ≡ true =
-      process-yes (masterOf l) (flagOf b) me (M .live) (M .flag) in
+      is-process M in
       at-is (view b l w .cash) (view b′ l w′ .cash) me (view b l w .cash me - sum)
       (cash-here b′ l w′ me (rw f h)
       ∙ (λ k. spent k me) ∙ at-here (cashOf w) me _ ∙ ap (λ x. x - sum) (sym (cash-here b l w me h)))

@@ -18,8 +18,8 @@ use Rattle.layout.proofs.Shown.{lock-here, cash-here}
 use Rattle.layout.proofs.Frame.{state-is, house-same, object-same, bytes-same, lock-same, lock-same-at, cash-same}
 use Rattle.layout.proofs.Frame.{cash-same-at, marks-same, box-same, cap-same, money-same}
 use Rattle.call_steps.specs.Run.{Process}
+use Rattle.call_steps.proofs.Process.{is-process}
 use Rattle.call_marks.specs.Runs.{spentWords, earnedWords}
-use Rattle.call_marks.proofs.Targets.{process-shown}
 
 -- ---- words that differ in cash and lockwords alone
 
@@ -71,7 +71,7 @@ module _ {b l : List ℕ} {o : ℕ} (P : Process b l o) (w : List ℕ) (z : leng
       let row : cashOf w′ ≡ at (cashOf w) o v = field-same 64 Layout.CASH w o v (P .high) (omega arith) (P .low) in
       all-but-purses b l (aside (as-it-was w) (Layout.CASH + o) v (omega arith) (omega (arith, P .high))) _ _
       (at-is (view b l w .cash) (view b l w′ .cash) o v
-      (cash-here b l w′ o (process-shown P) ∙ (λ i. row i o) ∙ at-here (cashOf w) o v)
+      (cash-here b l w′ o (is-process P) ∙ (λ i. row i o) ∙ at-here (cashOf w) o v)
       (λ j ne. cash-same-at b l w b l w′ j refl refl ((λ i. row i j) ∙ at-else (cashOf w) o v j ne)))
       (lock-same b l w b l w′ refl refl
       (field-other 64 Layout.LOCK1 w (Layout.CASH + o) v (λ i p q. omega (arith, P .high)))
@@ -79,11 +79,11 @@ module _ {b l : List ℕ} {o : ℕ} (P : Process b l o) (w : List ℕ) (z : leng
 
   pub spent-stored : (n : ℕ) → view b l (spentWords w o n) ≡ spend (view b l w) o n
   unfolding spend
-  spent-stored n = rw (cash-here b l w o (process-shown P)) (cash-stored (cashOf w o - n))
+  spent-stored n = rw (cash-here b l w o (is-process P)) (cash-stored (cashOf w o - n))
 
   pub earned-stored : (n : ℕ) → view b l (earnedWords w o n) ≡ earn (view b l w) o n
   unfolding earn
-  earned-stored n = rw (cash-here b l w o (process-shown P)) (cash-stored (cashOf w o + n))
+  earned-stored n = rw (cash-here b l w o (is-process P)) (cash-stored (cashOf w o + n))
 
   pub lock-stored : (u v : ℕ) → view b l (set (set w (Layout.LOCK1 + o) u) (Layout.LOCK2 + o) v)
       ≡ withLock (view b l w) (at (view b l w .lock) o (record { first = u; second = v }))
@@ -104,7 +104,7 @@ module _ {b l : List ℕ} {o : ℕ} (P : Process b l o) (w : List ℕ) (z : leng
       (field-other 64 Layout.CASH w₁ (Layout.LOCK2 + o) v (λ i p q. omega arith)
       ∙ field-other 64 Layout.CASH w (Layout.LOCK1 + o) u (λ i p q. omega (arith, P .low))))
       (at-is (view b l w .lock) (view b l w′ .lock) o _
-      (lock-here b l w′ o (process-shown P)
+      (lock-here b l w′ o (is-process P)
       ∙ rw (first, second, at-here (lock1Of w) o u, at-here (lock2Of w) o v))
       (λ j ne. lock-same-at b l w b l w′ j refl refl
       ((λ i. first i j) ∙ at-else (lock1Of w) o u j ne)

@@ -21,7 +21,7 @@ use Rattle.layout.proofs.Shown.{marks-here}
 use Rattle.layout.proofs.Frame.{state-is, house-same, object-same, bytes-same, lock-same, cash-same, marks-same-at}
 use Rattle.layout.proofs.Frame.{box-same, cap-same, money-same}
 use Rattle.call_steps.specs.Run.{Process}
-use Rattle.call_marks.proofs.Targets.{process-shown}
+use Rattle.call_steps.proofs.Process.{is-process}
 
 -- ---- a store among the rows of marks
 
@@ -74,7 +74,7 @@ module _ {b l : List ℕ} {o : ℕ} (P : Process b l o) (c v : ℕ) (low : Layou
       let b′ : List ℕ = set b c v in
       let f : flagOf b′ ≡ flagOf b = flag-kept b c v low high in
       all-but-marks b c v low high l w _ (at-is (view b l w .marks) (view b′ l w .marks) o _
-      (marks-here b′ l w o (rw f (process-shown P))
+      (marks-here b′ l w o (rw f (is-process P))
       ∙ rw (
         R .suspended-row,
         R .waiting-row,
@@ -143,7 +143,7 @@ module _ {b l : List ℕ} {o : ℕ} (P : Process b l o) (v : ℕ) (z : length b 
     pub suspended-marked : Marked (set b (Layout.SUSPENDED + o) v) l w (setSuspended (view b l w) o (isSet v))
     unfolding setSuspended
     suspended-marked =
-        let h = process-shown P in
+        let h = is-process P in
         rw (marks-here b l w o h)
         (marked P (Layout.SUSPENDED + o) v (omega arith) (omega (arith, P .high)) suspended-rows
         w z C one (C .waiting o h) (C .terminated o h))
@@ -151,7 +151,7 @@ module _ {b l : List ℕ} {o : ℕ} (P : Process b l o) (v : ℕ) (z : length b 
     pub waiting-marked : Marked (set b (Layout.WAITING + o) v) l w (setWaiting (view b l w) o (isSet v))
     unfolding setWaiting
     waiting-marked =
-        let h = process-shown P in
+        let h = is-process P in
         rw (marks-here b l w o h)
         (marked P (Layout.WAITING + o) v (omega arith) (omega (arith, P .high)) waiting-rows
         w z C (C .suspended o h) one (C .terminated o h))
@@ -159,7 +159,7 @@ module _ {b l : List ℕ} {o : ℕ} (P : Process b l o) (v : ℕ) (z : length b 
     pub terminated-marked : Marked (set b (Layout.TERMINATED + o) v) l w (setTerminated (view b l w) o (isSet v))
     unfolding setTerminated
     terminated-marked =
-        let h = process-shown P in
+        let h = is-process P in
         rw (marks-here b l w o h)
         (marked P (Layout.TERMINATED + o) v (omega arith) (omega (arith, P .high)) terminated-rows
         w z C (C .suspended o h) (C .waiting o h) one)

@@ -26,9 +26,10 @@ use Rattle.call_marks.specs.Runs.{told, processStop, suspendedRun, locke
 use Rattle.call_marks.specs.Runs.{reviveStop, spentWords, movedWords, reviveRun, infoRun}
 use Rattle.call_marks.proofs.Stops.{process-data, revive-data}
 use Rattle.call_steps.proofs.Holding.{target-of}
-use Rattle.call_marks.proofs.Targets.{target-process, process-is, process-shown, stop-is, unstopped}
+use Rattle.call_marks.proofs.Targets.{target-process, process-is, stop-is, unstopped}
 use Rattle.call_marks.proofs.Marked.{Marked, suspended-marked, waiting-marked, terminated-marked}
 use Rattle.call_marks.proofs.Amounts.{spent-stored, earned-stored, lock-stored}
+use Rattle.call_steps.proofs.Process.{is-process}
 use Rattle.call_steps.proofs.Meeting.{none, takes, DoesPlain, plain-done, plain-settled}
 
 module _ {b l w : List ℕ} (f : Plain b l w) (c : Call) (me k : ℕ) where
@@ -73,7 +74,7 @@ module _ {b l w : List ℕ} (f : Plain b l w) (c : Call) (me k : ℕ) where
   pub wait-meets : Process b l me → op (c .number) ≡ wait → MeetsPlain l s c me k wait (waitRun b l w me)
   unfolding takes refuses does waitDoes first waitRun isSet
   wait-meets m e =
-      let empty : boxEmpty s c me k ≡ eqb (countOf b me) 0 = rw (box-length b l w me (process-shown m)) refl in
+      let empty : boxEmpty s c me k ≡ eqb (countOf b me) 0 = rw (box-length b l w me (is-process m)) refl in
       plain-done b l w c me k wait (rw e refl) refl
       (pick-by (λ b′. DoesPlain l s c me k wait (over 0 b′ l w)) (eqb (countOf b me) 0) _ _
       (λ z. does-over wait _ w _ (pick-yes (boxEmpty s c me k) _ _ (empty ∙ z))
@@ -92,7 +93,7 @@ module _ {b l w : List ℕ} (f : Plain b l w) (c : Call) (me k : ℕ) where
       let P = unstopped b l w k T _ (process-data b l k) z in
       does-over applyLock b (lockedWords w (ownerOf l k) (c .lock)) _ refl (record {
         shows = lock-stored P w (f .sized .words) _ _
-            ∙ rw (cap-object b l w k, lock-here b l w (ownerOf l k) (process-shown P));
+            ∙ rw (cap-object b l w k, lock-here b l w (ownerOf l k) (is-process P));
         sized = f .sized .bytes;
         cells = f .cells;
       }) (simp length-set (f .sized .words)))
@@ -108,8 +109,8 @@ module _ {b l w : List ℕ} (f : Plain b l w) (c : Call) (me k : ℕ) where
         rw (
           process-is b l w k T,
           cap-object b l w k,
-          marks-here b l w (ownerOf l k) (process-shown P),
-          cash-here b l w me (process-shown m),
+          marks-here b l w (ownerOf l k) (is-process P),
+          cash-here b l w me (is-process m),
         ))
         (λ e. rw (process-is b l w k T, e))
 

@@ -1,7 +1,7 @@
 -- What the code asks is so in a well-formed store, whatever the links of its trees. Beside lengths and slots, a window's
 -- ends are in order, and the cash that a sum is moved to has room for it, since the money total stays.
 use Prim.Native.Nat.{ℕ, _+_, _≤_}
-use mathlib.Core.Path.{_≡_, ap, _∙_}
+use mathlib.Core.Path.{_≡_, ap}
 use mathlib.Core.List.{List}
 use native.Mathlib.Omega.{arith}
 use Rattle.rules.specs.Limit as Limit
@@ -16,24 +16,20 @@ use Rattle.rules.proofs.Keeping.{sound-spend, total-spend, total-earn}
 use Rattle.layout.specs.Rows.{flagOf, ownerOf}
 use Rattle.layout.specs.View.{view}
 use Rattle.layout.specs.WellFormed.{Plain}
-use Rattle.layout.proofs.Shown.{process-is, object-shown, cash-here, set-yes}
+use Rattle.layout.proofs.Shown.{cash-here, set-yes}
 use Rattle.layout.proofs.Asked.{fields}
 use Rattle.call_steps.specs.Run.{Process, Held, Target}
 use Rattle.call_steps.proofs.Holding.{target-of}
+use Rattle.call_steps.proofs.Process.{is-process}
+use Rattle.call_steps.proofs.Entering.{process-shown}
 use Rattle.call_marks.specs.Runs.{spentWords, Affords, MarkAsks, LockAsks, ReviveAsks, InfoAsks}
-use Rattle.call_marks.proofs.Targets.{target-process, process-shown}
+use Rattle.call_marks.proofs.Targets.{target-process}
 use Rattle.call_marks.proofs.Amounts.{spent-stored}
 
 -- a process's cash is part of the total
 cash-part : (s : State) (o : ℕ) → 1 ≤ o → o ≤ 64 → s .cash o ≤ moneyIn s
 unfolding moneyIn allCash
 cash-part s o low high = omega (arith, sum-at 64 (λ (m : ℕ). m) (s .cash) o 0 low high)
-
-rules-process : {b l : List ℕ} {o : ℕ} (w : List ℕ) → Process b l o → Rules.Process (view b l w .object) o
-rules-process {b} {l} {o} w p = record {
-  live = object-shown b l w o (p .live);
-  process = process-is b l w o ∙ process-shown p;
-}
 
 -- a sum that is moved from cash that has it
 moved-fits : (s : State) → Valid s → (me o n : ℕ) → Rules.Process (s .object) me → Rules.Process (s .object) o
@@ -58,9 +54,9 @@ revive-affords {b} {l} {w} {me} {k} f m T sum flag enough =
     let P : Process b l (ownerOf l k) = target-process b l w k T (set-yes (flagOf b (ownerOf l k)) flag) in
     let e : view b l (spentWords w me sum) .cash (ownerOf l k) ≡ spend (view b l w) me sum .cash (ownerOf l k) =
     ap (λ (s : State). s .cash (ownerOf l k)) (spent-stored m w (f .sized .words) sum) in
-    let fits = moved-fits (view b l w) (f .valid) me (ownerOf l k) sum (rules-process w m) (rules-process w P) (P .low)
-    (P .high) (rw (cash-here b l w me (process-shown m)) enough) in
-    omega (arith, fits, e, cash-here b l (spentWords w me sum) (ownerOf l k) (process-shown P))
+    let fits = moved-fits (view b l w) (f .valid) me (ownerOf l k) sum (process-shown b l w me m)
+    (process-shown b l w (ownerOf l k) P) (P .low) (P .high) (rw (cash-here b l w me (is-process m)) enough) in
+    omega (arith, fits, e, cash-here b l (spentWords w me sum) (ownerOf l k) (is-process P))
 
 -- ---- call by call
 

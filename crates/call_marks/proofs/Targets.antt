@@ -12,14 +12,10 @@ use Rattle.rules.specs.Calls.{processRefuses}
 use Rattle.rules.proofs.Tests.{by-bool}
 use Rattle.layout.specs.Rows.{flagOf, masterOf, ownerOf}
 use Rattle.layout.specs.View.{isSet, isProcess, view}
-use Rattle.layout.proofs.Shown.{set-yes, is-set, process-yes, cap-object}
+use Rattle.layout.proofs.Shown.{set-yes, is-set, cap-object}
 use Rattle.layout.proofs.Shown as Shown
 use Rattle.call_steps.specs.Run.{Process, Target}
 use Rattle.call_marks.specs.Runs.{processStop}
-
--- a process, as the view tests it
-pub process-shown : {b l : List ℕ} {o : ℕ} → Process b l o → isProcess (masterOf l) (flagOf b) o ≡ true
-process-shown {b} {l} {o} p = process-yes (masterOf l) (flagOf b) o (p .live) (p .flag)
 
 module _ (b l w : List ℕ) (k : ℕ) (T : Target l k) where
   pub target-process : isSet (flagOf b (ownerOf l k)) ≡ true → Process b l (ownerOf l k)

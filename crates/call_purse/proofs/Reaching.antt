@@ -11,13 +11,14 @@ use Rattle.rules.specs.Valid.{Lives, Climbs, top, step, Caps}
 use Rattle.rules.proofs.Climbs.{OneOf, climbs-frame, climb-few}
 use Rattle.rules.proofs.Forest.{path-climbs, path-lives}
 use Rattle.layout.specs.Layout as Layout
-use Rattle.layout.specs.Rows.{masterOf, flagOf, ownerOf, parentOf, cashOf, moneyOf}
+use Rattle.layout.specs.Rows.{ownerOf, parentOf, cashOf, moneyOf}
 use Rattle.layout.specs.View.{view}
 use Rattle.layout.specs.Shape.{Chain}
 use Rattle.layout.specs.WellFormed.{Plain}
 use Rattle.layout.proofs.Field.{field-low, field-high}
-use Rattle.layout.proofs.Shown.{process-yes, cash-here, parent-is, money-here, cap-lives, cap-shown}
+use Rattle.layout.proofs.Shown.{cash-here, parent-is, money-here, cap-lives, cap-shown}
 use Rattle.call_steps.specs.Run.{Process, Held}
+use Rattle.call_steps.proofs.Process.{is-process}
 use Rattle.call_purse.specs.declared.way.Way.{Way}
 use Rattle.call_purse.specs.Climb.{climbOf, stops, climbStops}
 
@@ -37,7 +38,7 @@ any-same t u (i ∷ xs) h =
 
 -- the caller's cash is its cell
 pub cash-is : (b l w : List ℕ) (me : ℕ) → Process b l me → view b l w .cash me ≡ cashOf w me
-cash-is b l w me h = cash-here b l w me (process-yes (masterOf l) (flagOf b) me (h .live) (h .flag))
+cash-is b l w me h = cash-here b l w me (is-process h)
 
 module _ (b l w : List ℕ) (g : Plain b l w) (k : ℕ) (held : Held l k) where
   abbrev s : State

@@ -12,14 +12,15 @@ use Rattle.rules.specs.Changes.{onClimb}
 use Rattle.rules.proofs.Tests.{by-eq}
 use Rattle.rules.proofs.Forest.{descends-lives}
 use Rattle.layout.specs.Layout as Layout
-use Rattle.layout.specs.Rows.{masterOf, flagOf, ownerOf, cashOf}
+use Rattle.layout.specs.Rows.{ownerOf, cashOf}
 use Rattle.layout.specs.View.{view}
 use Rattle.layout.specs.WellFormed.{Plain}
 use Rattle.rules.proofs.Slots.{at-here, at-else}
 use Rattle.layout.proofs.Field.{at-is}
-use Rattle.layout.proofs.Shown.{process-yes, cash-here, cap-shown, cap-object, money-here, money-none}
+use Rattle.layout.proofs.Shown.{cash-here, cap-shown, cap-object, money-here, money-none}
 use Rattle.layout.proofs.Frame.{state-is, lock-same, cash-same-at, box-same, cap-same}
 use Rattle.call_steps.specs.Run.{Process, Held}
+use Rattle.call_steps.proofs.Process.{is-process}
 use Rattle.call_purse.specs.Climb.{climbOf}
 use Rattle.call_purse.proofs.Storing.{Changed}
 use Rattle.call_purse.proofs.Reaching.{path-is}
@@ -33,7 +34,7 @@ module _ (b l w : List ℕ) (g : Plain b l w) (me k : ℕ) (caller : Process b l
 
   cash-is : view b l after .cash ≡ at (view b l w .cash) me v
   cash-is =
-      let runs = process-yes (masterOf l) (flagOf b) me (caller .live) (caller .flag) in
+      let runs = is-process caller in
       at-is (view b l w .cash) (view b l after .cash) me v
       (cash-here b l after me runs ∙ (λ d. t .cash d me) ∙ at-here (cashOf w) me v)
       (λ j n. cash-same-at b l w b l after j refl refl ((λ d. t .cash d j) ∙ at-else (cashOf w) me v j n))

@@ -26,16 +26,17 @@ use Rattle.layout.specs.WellFormed.{Sized, Plain}
 use Rattle.rules.proofs.Slots.{at-here, at-else}
 use Rattle.layout.proofs.Field.{at-is, field-in}
 use Rattle.layout.proofs.Puts.{Put, put, puts, Within, beside, length-puts, field-puts, field-kept, head-puts}
-use Rattle.layout.proofs.Shown.{process-yes, cash-here}
+use Rattle.layout.proofs.Shown.{cash-here}
 use Rattle.layout.proofs.Frame.{state-is, object-same, bytes-same, lock-same, marks-same, box-same, cap-same}
 use Rattle.layout.proofs.Frame.{money-same, cash-same-at}
 use Rattle.call_steps.specs.Run.{Process}
 use Rattle.call_steps.specs.Paying.{paidWords, CanPay}
+use Rattle.call_steps.proofs.Process.{is-process}
 use Rattle.call_steps.proofs.Entering.{process-shown, payer-process}
 
 module _ (b l w : List ℕ) (me : ℕ) (P : Process b l me) where
   process : isProcess (masterOf l) (flagOf b) me ≡ true
-  process = process-yes (masterOf l) (flagOf b) me (P .live) (P .flag)
+  process = is-process P
 
   pub cash-is : view b l w .cash me ≡ getD w (Layout.CASH + me) 0
   cash-is = cash-here b l w me process ∙ field-in 64 Layout.CASH w me (P .low) (P .high)

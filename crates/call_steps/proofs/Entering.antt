@@ -19,8 +19,9 @@ use Rattle.layout.specs.Rows.{masterOf, flagOf}
 use Rattle.layout.specs.View.{isProcess, view}
 use Rattle.layout.specs.WellFormed.{Plain}
 use Rattle.layout.proofs.Field.{field-low, field-high}
-use Rattle.layout.proofs.Shown.{process-is, process-yes, process-lives, process-flag, object-shown}
+use Rattle.layout.proofs.Shown.{process-is, process-lives, process-flag, object-shown}
 use Rattle.call_steps.specs.Run.{Process}
+use Rattle.call_steps.proofs.Process.{is-process}
 
 -- ---- 2, 3 and 4, in order
 
@@ -74,7 +75,7 @@ module _ (b l w : List ℕ) where
   pub process-shown : (o : ℕ) → Process b l o → Rules.Process (view b l w .object) o
   process-shown o P = record {
     live = object-shown b l w o (P .live);
-    process = process-is b l w o ∙ process-yes (masterOf l) (flagOf b) o (P .live) (P .flag);
+    process = process-is b l w o ∙ is-process P;
   }
 
   module _ (W : Plain b l w) (c : Call) where

@@ -16,13 +16,14 @@ use Rattle.rules.specs.Password.{unlock, presented}
 use Rattle.rules.proofs.Tests.{by-eq, bool-same, both-true, all2, same-name, name-same, lives, does-live}
 use Rattle.rules.proofs.Presenting.{named, found-live, not-named, shown}
 use Rattle.layout.specs.Layout as Layout
-use Rattle.layout.specs.Rows.{ownerOf, masterOf, flagOf}
+use Rattle.layout.specs.Rows.{ownerOf, masterOf}
 use Rattle.layout.specs.View.{view}
 use Rattle.layout.specs.WellFormed.{Plain}
 use Rattle.layout.proofs.Field.{row, field-in, field-low, field-high}
-use Rattle.layout.proofs.Shown.{process-yes, object-lives, lock-here, cap-here, cap-object, cap-lives, cap-shown}
+use Rattle.layout.proofs.Shown.{object-lives, lock-here, cap-here, cap-object, cap-lives, cap-shown}
 use Rattle.call_steps.specs.Run.{Process, Held, Target}
 use Rattle.call_steps.specs.Tests.{CapSlot, SameFrom, held, cellIs}
+use Rattle.call_steps.proofs.Process.{is-process}
 use Rattle.call_steps.proofs.Finding.{same-among}
 
 -- ---- one slot; x is its owner
@@ -134,7 +135,7 @@ pub lock-is : (b l w : List ℕ) (me : ℕ) → Process b l me
     ≡ record { first = getD w (Layout.LOCK1 + me) 0; second = getD w (Layout.LOCK2 + me) 0 }
 lock-is b l w me P =
     rw (
-      lock-here b l w me (process-yes (masterOf l) (flagOf b) me (P .live) (P .flag)),
+      lock-here b l w me (is-process P),
       field-in 64 Layout.LOCK1 w me (P .low) (P .high),
       field-in 64 Layout.LOCK2 w me (P .low) (P .high),
     )

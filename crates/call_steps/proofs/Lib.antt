@@ -2,6 +2,7 @@
 pub mod Finding
 pub mod Fitting
 pub mod Callers
+pub mod Process
 pub mod Holding
 pub mod Admitting
 pub mod Sharing

@@ -22,10 +22,11 @@ use Rattle.layout.specs.WellFormed.{Sized, Cells, Plain}
 use Rattle.rules.proofs.Slots.{at-here, at-else}
 use Rattle.layout.proofs.Field.{at-is}
 use Rattle.layout.proofs.Puts.{Put, put, puts, Within, beside, length-puts, field-puts, field-kept, region-kept}
-use Rattle.layout.proofs.Shown.{process-yes, marks-here}
+use Rattle.layout.proofs.Shown.{marks-here}
 use Rattle.layout.proofs.Frame.{state-is, object-same, bytes-same, lock-same, cash-same, box-same, marks-same-at}
 use Rattle.call_steps.specs.Run.{Process}
 use Rattle.call_steps.specs.Paying.{terminatedBytes}
+use Rattle.call_steps.proofs.Process.{is-process}
 use Rattle.call_steps.proofs.Entering.{process-shown, stopper-process}
 
 -- terminated, and its other marks as they are
@@ -64,7 +65,7 @@ module _ (b l w : List ℕ) (me : ℕ) (P : Process b l me) (Z : Sized b l w) wh
   ends = field-puts 64 Layout.TERMINATED b (omega (arith, Z .bytes)) stores refl within (P .low, tt)
 
   process : isProcess (masterOf l) (flagOf b) me ≡ true
-  process = process-yes (masterOf l) (flagOf b) me (P .live) (P .flag)
+  process = is-process P
 
   marks-me : view after l w .marks me ≡ ended (view b l w .marks me)
   unfolding isSet
