@@ -1,103 +1,116 @@
--- The capability presented: what the cells say of a slot, and why the owner's slot decides as its name does.
-use Prim.Native.Nat.{ℕ, _+_, _≤_}
-use mathlib.Core.Path.{_≡_, refl, sym, ap, _∙_, subst, fun-ext}
+-- The capability presented: its object's slot and its p1 find it, since p1 is unique in an object, and p2 decides.
+use Prim.Native.Nat.{ℕ, _+_}
+use mathlib.Core.Path.{_≡_, sym, ap, ap₂, _∙_, subst}
 use mathlib.Core.Logic.{_≢_}
-use mathlib.Core.Bool.{Bool, true, false, _&&_, false≢true}
+use mathlib.Core.Bool.{true}
 use mathlib.Core.List.{List}
-use native.Mathlib.Omega.{arith}
 use lib.Dec.{eqb}
 use lib.ListN.{getD}
-use borrow.Author.Tests.{eq-eqb, ne-eqb, eqb-true}
+use borrow.Author.Tests.{eq-eqb, eqb-true}
 use Rattle.rules.specs.Slots.{find}
-use Rattle.rules.specs.Store.{Name, Password, State, sameName, samePassword, capLives, objectNamed}
+use Rattle.rules.specs.Store.{Cap, Password, State, objectNamed}
 use Rattle.rules.specs.Valid.{Lives, Formed}
 use Rattle.rules.specs.Call.{Capability}
 use Rattle.rules.specs.Password.{unlock, presented}
-use Rattle.rules.proofs.Tests.{by-eq, bool-same, both-true, all2, same-name, name-same, lives, does-live}
-use Rattle.rules.proofs.Presenting.{named, found-live, not-named, shown}
+use Rattle.rules.proofs.Tests.{by-eq, both-true, all2, lives}
+use Rattle.rules.proofs.Slots.{find-finds, find-some}
+use Rattle.rules.proofs.Presenting.{named, found-live, not-named, shown, presents}
 use Rattle.layout.specs.Layout as Layout
 use Rattle.layout.specs.Rows.{ownerOf, masterOf}
 use Rattle.layout.specs.View.{view}
 use Rattle.layout.specs.WellFormed.{Plain}
-use Rattle.layout.proofs.Field.{row, field-in, field-low, field-high}
+use Rattle.layout.proofs.Field.{field-in, field-low, field-high}
 use Rattle.layout.proofs.Shown.{object-lives, lock-here, cap-here, cap-object, cap-lives, cap-shown}
 use Rattle.call_steps.specs.Run.{Process, Held, Target}
-use Rattle.call_steps.specs.Tests.{CapSlot, SameFrom, held, cellIs}
+use Rattle.call_steps.specs.Tests.{taken}
 use Rattle.call_steps.proofs.Process.{is-process}
-use Rattle.call_steps.proofs.Finding.{same-among}
-
--- ---- one slot; x is its owner
-
-module _ (b l w : List ℕ) (o : ℕ) (p : Password) (i : ℕ) (at : CapSlot i) (x : ℕ) (e : x ≡ getD l (Layout.OWNER + i) 0)
-  where
-    owner-is : view b l w .cap i .object ≡ x
-    owner-is = cap-object b l w i ∙ row Layout.OWNER l i at ∙ sym e
-
-    pub held-else : x ≢ o → false ≡ held (view b l w) o p i
-    unfolding held
-    held-else ne = rw (owner-is, ne-eqb x o ne)
-
-    pub held-here : 1 ≤ o → x ≡ o → held (view b l w) o p i
-        ≡ (eqb (getD w (Layout.P1 + i) 0) (p .p1) && eqb (getD w (Layout.P2 + i) 0) (p .p2))
-    unfolding held samePassword
-    held-here some q =
-        let alive : ownerOf l i ≢ 0 = λ z. omega (arith, row Layout.OWNER l i at) in
-        rw (owner-is, eq-eqb x o q, cap-here b l w i alive, row Layout.P1 w i at, row Layout.P2 w i at)
-
-    pub held-p1 : 1 ≤ o → held (view b l w) o p i ≡ true → cellIs Layout.P1 w (p .p1) i ≡ true
-    unfolding cellIs
-    held-p1 some h = by-eq x o
-        (λ q.
-        all2 (eqb (getD w (Layout.P1 + i) 0) (p .p1)) (eqb (getD w (Layout.P2 + i) 0) (p .p2))
-        (sym (held-here some q) ∙ h) .0)
-        (λ ne. absurd (false≢true (held-else ne ∙ h)))
-
--- the search goes on at the next slot with the p1
-pub held-among : (b l w : List ℕ) (o : ℕ) (p : Password) (i : ℕ) → 1 ≤ o → SameFrom (held (view b l w) o p) 512 i
-    → (r : ℕ) → r ≡ find i (cellIs Layout.P1 w (p .p1)) → SameFrom (held (view b l w) o p) 512 r
-held-among b l w o p i some now = same-among _ _ now (λ k low high.
-    held-p1 b l w o p k (record { low = low; high = omega (arith, now .high) }) _ refl some)
 
 -- ---- the search
-
--- of a living object's capabilities, those of the object found are those of its name
-module _ (s : State) (G : Formed s) (n : Name) where
-  of-name : (i : ℕ) → Bool
-  of-name i = capLives s i && sameName (s .object (s .cap i .object) .name) n
-
-  owner-live : (i : ℕ) → Lives (s .cap) i → s .object (s .cap i .object) .live ≡ true
-  owner-live i h = G .caps .live i h .owned
-
-  name-owner : objectNamed s n ≢ 0 → s .object (objectNamed s n) .live ≡ true
-      → (i : ℕ) → of-name i ≡ eqb (s .cap i .object) (objectNamed s n)
-  unfolding of-name
-  name-owner found alive i = bool-same (of-name i) (eqb (s .cap i .object) (objectNamed s n))
-      (λ h.
-      let f = all2 (capLives s i) (sameName (s .object (s .cap i .object) .name) n) h in
-      eq-eqb _ _ (G .objects .names (s .cap i .object) (objectNamed s n) (owner-live i (lives s i (f .0))) alive
-      (same-name _ n (f .1) ∙ sym (named s n found))))
-      (λ h.
-      let e : s .cap i .object ≡ objectNamed s n = eqb-true _ _ h in
-      both-true (capLives s i) (sameName (s .object (s .cap i .object) .name) n)
-      (does-live s i (λ z. found (sym e ∙ z)))
-      (name-same _ n (ap (λ o. s .object o .name) e ∙ named s n found)))
 
 module _ (s : State) (G : Formed s) (me : ℕ) (x : Capability) where
   -- no object has the name
   pub present-none : objectNamed s (x .name) ≡ 0 → presented s me x ≡ 0
   present-none e = by-eq (presented s me x) 0 (λ z. z) (λ h.
       let k = shown s me x h in
-      absurd (not-named s (x .name) (G .objects) e _ (owner-live s G (x .name) _ (k .lives)) (k .name)))
+      absurd (not-named s (x .name) (G .objects) e _ (G .caps .live _ (k .lives) .owned) (k .name)))
 
-  -- o is the object of the name, p the password as it is looked up
-  pub present-held : (o : ℕ) → o ≡ objectNamed s (x .name) → o ≢ 0
-      → (p : Password) → p ≡ unlock (x .password) (s .lock me) → find 512 (held s o p) ≡ presented s me x
-  unfolding presented held of-name
-  present-held o e found p q =
-      let f : objectNamed s (x .name) ≢ 0 = λ z. found (e ∙ z) in
-      rw (e, q) (ap (find 512) (fun-ext (λ i.
-      ap (λ t. t && samePassword (s .cap i .password) (unlock (x .password) (s .lock me)))
-      (sym (name-owner s G (x .name) f (found-live s (x .name) f) i)))))
+  -- o is the object of the name, p the password as it is looked up, k the slot of o's capability with its p1
+  module _ (o : ℕ) (e : o ≡ objectNamed s (x .name)) (some : o ≢ 0)
+      (p : Password) (q : p ≡ unlock (x .password) (s .lock me))
+      (k : ℕ) (f : k ≡ find 512 (taken s o (p .p1))) where
+    name-is : s .object o .name ≡ x .name
+    name-is = rw e (named s (x .name) (λ z. some (e ∙ z)))
+
+    -- slot k, where one is found
+    has-p1 : k ≢ 0 → (s .cap k .object ≡ o) × (s .cap k .password .p1 ≡ p .p1)
+    unfolding taken
+    has-p1 nz =
+        let g : taken s o (p .p1) k ≡ true = rw f (find-finds 512 (taken s o (p .p1)) (λ z. nz (f ∙ z)) .0) in
+        let h = all2 (eqb (s .cap k .object) o) (eqb (s .cap k .password .p1) (p .p1)) g in
+        (eqb-true _ _ (h .0), eqb-true _ _ (h .1))
+
+    -- a p1 is unique in its object: what is presented stands in slot k
+    by-p1 : presented s me x ≢ 0 → presented s me x ≡ k
+    unfolding taken
+    by-p1 nz =
+        let j : ℕ = presented s me x in
+        let S = shown s me x nz in
+        let c = G .caps .live j (S .lives) in
+        let alive : s .object o .live ≡ true = rw e (found-live s (x .name) (λ z. some (e ∙ z))) in
+        let owner : s .cap j .object ≡ o =
+        G .objects .names (s .cap j .object) o (c .owned) alive (S .name ∙ sym name-is) in
+        let p1 : s .cap j .password .p1 ≡ p .p1 = ap (λ (r : Password). r .p1) (S .password ∙ sym q) in
+        let t = both-true (eqb (s .cap j .object) o) (eqb (s .cap j .password .p1) (p .p1))
+        (eq-eqb _ _ owner) (eq-eqb _ _ p1) in
+        let found : k ≢ 0 = λ z. find-some 512 (taken s o (p .p1)) j (c .some) (c .low) t (sym f ∙ z) in
+        let h = has-p1 found in
+        G .caps .passwords j k (S .lives) (λ z. some (sym (h .0) ∙ z)) (owner ∙ sym (h .0)) (p1 ∙ sym (h .1))
+
+    -- p2 decides; where there is no slot k, the answer is 0 both ways
+    present-here : (k ≢ 0 → s .cap k .password .p2 ≡ p .p2) → k ≡ presented s me x
+    present-here h = by-eq k 0
+        (λ z. z ∙ sym (by-eq (presented s me x) 0 (λ y. y) (λ nz. absurd (nz (by-p1 nz ∙ z)))))
+        (λ nz.
+        let g = has-p1 nz in
+        let lives : Lives (s .cap) k = λ z. some (sym (g .0) ∙ z) in
+        let c = G .caps .live k lives in
+        let same : s .cap k .password ≡ p = ap₂ (λ a d. record { p1 = a; p2 = d }) (g .1) (h nz) in
+        sym (by-p1 (presents s me x k (c .some) (c .low) (record {
+          lives = lives;
+          name = ap (λ i. s .object i .name) (g .0) ∙ name-is;
+          password = same ∙ q;
+        }))))
+
+    present-else : (k ≢ 0 → s .cap k .password .p2 ≢ p .p2) → 0 ≡ presented s me x
+    present-else h = sym (by-eq (presented s me x) 0 (λ z. z) (λ nz.
+        absurd (h (λ z. nz (by-p1 nz ∙ z)) (ap (λ i. s .cap i .password .p2) (sym (by-p1 nz))
+        ∙ ap (λ (r : Password). r .p2) (shown s me x nz .password ∙ sym q)))))
+
+-- slot r is slot k where k's cell has this p2, otherwise 0
+pub record ByP2 (w : List ℕ) (k p2 r : ℕ) : Type 0 where
+  pub here : getD w (Layout.P2 + k) 0 ≡ p2 → k ≡ r
+  pub else : getD w (Layout.P2 + k) 0 ≢ p2 → 0 ≡ r
+
+-- the same of the cells
+module _ (b l w : List ℕ) (W : Plain b l w) (me : ℕ) (x : Capability)
+    (o : ℕ) (e : o ≡ objectNamed (view b l w) (x .name)) (some : o ≢ 0)
+    (p : Password) (q : p ≡ unlock (x .password) (view b l w .lock me))
+    (k : ℕ) (f : k ≡ find 512 (taken (view b l w) o (p .p1))) where
+  abbrev s : State
+  s = view b l w
+
+  cell : k ≢ 0 → s .cap k .password .p2 ≡ getD w (Layout.P2 + k) 0
+  cell nz =
+      let alive : ownerOf l k ≢ 0 =
+      λ z. some (sym (has-p1 s (W .valid .formed) me x o e some p q k f nz .0) ∙ cap-object b l w k ∙ z) in
+      ap (λ (c : Cap). c .password .p2) (cap-here b l w k alive)
+      ∙ field-in 512 Layout.P2 w k (field-low 512 Layout.OWNER l k alive) (field-high 512 Layout.OWNER l k alive)
+
+  pub present-by : ByP2 w k (p .p2) (presented s me x)
+  present-by = record {
+    here = λ h. present-here s (W .valid .formed) me x o e some p q k f (λ nz. cell nz ∙ h);
+    else = λ h. present-else s (W .valid .formed) me x o e some p q k f (λ nz y. h (sym (cell nz) ∙ y));
+  }
 
 -- ---- what is presented is held
 

@@ -1,8 +1,8 @@
--- "p1 is taken in the object": what the cells say of a slot, and that the test of all slots is the rules'.
+-- A capability with a p1: what the cells say of a slot, and that "p1 is taken in the object" is that there is one.
 use Prim.Native.Nat.{ℕ, _+_, _≤_}
 use mathlib.Core.Path.{_≡_, refl, sym, _∙_}
 use mathlib.Core.Logic.{_≢_}
-use mathlib.Core.Bool.{Bool, true, false, false≢true}
+use mathlib.Core.Bool.{true, false, false≢true}
 use mathlib.Core.List.{List}
 use native.Mathlib.Omega.{arith}
 use lib.Dec.{eqb}
@@ -19,7 +19,7 @@ use Rattle.layout.specs.View.{view}
 use Rattle.layout.proofs.Field.{field-in}
 use Rattle.layout.proofs.Shown.{cap-here, cap-object}
 use Rattle.call_steps.specs.Tests.{CapSlot, SameFrom, taken, cellIs}
-use Rattle.call_steps.proofs.Finding.{find-this, same-among}
+use Rattle.call_steps.proofs.Finding.{same-among}
 
 -- ---- one slot; x is its owner
 
@@ -55,14 +55,6 @@ pub taken-among : (b l w : List ℕ) (o p1 i : ℕ) → 1 ≤ o → SameFrom (ta
     → (r : ℕ) → r ≡ find i (cellIs Layout.P1 w p1) → SameFrom (taken (view b l w) o p1) 512 r
 taken-among b l w o p1 i some now = same-among _ _ now (λ k low high.
     taken-p1 b l w o p1 k (record { low = low; high = omega (arith, now .high) }) _ refl some)
-
-pub some-is : (t : ℕ → Bool) (i : ℕ) → 1 ≤ i → find 512 t ≡ find i t → t i ≡ true → true ≡ some 512 t
-unfolding some
-some-is t i low e h = rw (e, find-this t i low h, ne-eqb i 0 (omega arith))
-
-pub some-not : (t : ℕ → Bool) → find 512 t ≡ 0 → false ≡ some 512 t
-unfolding some
-some-not t e = rw (e)
 
 -- the rules' test, of the object that capability k is for
 pub p1-taken-is : (s : State) (c : Call) (me k : ℕ)

@@ -7,7 +7,7 @@ use lib.Dec.{eqb}
 use lib.ListN.{getD}
 use Rattle.rules.specs.Limit as Limit
 use Rattle.rules.specs.Slots.{find}
-use Rattle.rules.specs.Store.{Name, Password, State, sameName, samePassword}
+use Rattle.rules.specs.Store.{Name, State, sameName}
 use Rattle.layout.specs.Rows.{suspendedOf, waitingOf, terminatedOf}
 use Rattle.layout.specs.View.{isSet}
 use Rattle.layout.specs.Sizes.{Slot}
@@ -25,10 +25,6 @@ named s n o = s .object o .live && sameName (s .object o .name) n
 -- no mark of slot o is set
 unfoldable pub unmarked : List ℕ → ℕ → Bool
 unmarked b o = not (isSet (suspendedOf b o) || isSet (waitingOf b o) || isSet (terminatedOf b o))
-
--- slot i holds a capability of object o with this password
-unfoldable pub held : State → ℕ → Password → ℕ → Bool
-held s o p i = eqb (s .cap i .object) o && samePassword (s .cap i .password) p
 
 -- slot i holds a capability of object o with this p1
 unfoldable pub taken : State → ℕ → ℕ → ℕ → Bool

@@ -2,6 +2,7 @@
 pub mod copy;
 mod groups;
 pub mod objects;
+mod owned;
 pub mod pay;
 pub mod present;
 pub mod ranges;

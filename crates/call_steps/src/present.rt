@@ -1,68 +1,28 @@
 // Refusals 5 and 6: the capability presented, and the right that is asked of it.
 ghost use mathlib.Core.Path.{_≡_};
 ghost use mathlib.Core.List.{List};
-ghost use Prim.Native.Nat.{ℕ, _≤_};
+ghost use Prim.Native.Nat.{ℕ};
 ghost use lib.ListN.{length};
-ghost use Rattle.rules.specs.Limit as Limit;
-ghost use Rattle.rules.specs.Slots.{find};
 ghost use Rattle.rules.specs.Rights.{has};
 ghost use Rattle.rules.specs.Password.{presented};
-ghost use Rattle.values.specs.Words.{passwordOf};
 ghost use Rattle.layout.specs.Layout;
 ghost use Rattle.layout.specs.View.{view};
 ghost use Rattle.layout.specs.WellFormed.{Plain};
 ghost use Rattle.call_steps.specs.Admits.{Admits};
 ghost use Rattle.call_steps.specs.Request.{capabilityOf};
 ghost use Rattle.call_steps.specs.Run.{Process, Held};
-ghost use Rattle.layout.specs.Sizes.{LinksWords};
-ghost use Rattle.call_steps.specs.Tests.{CapSlot, held};
-use crate::groups::last_p1;
 use crate::objects::find_object;
+use crate::owned::find_cap;
 use crate::request::Capability;
 use layout::LOCK1;
 use layout::LOCK2;
-use layout::OWNER;
-use layout::P1;
 use layout::P2;
 use layout::RIGHTS;
-use layout::slot;
 use values::code::DONE;
 use values::code::NOT_FOUND;
 use values::code::RIGHT_MISSING;
-use values::limit::MAX_CAPS;
 use values::password::unlock;
 use values::rights::Rights;
-
-// Slot i holds a capability of object o with this password.
-fn is_held(links: &[u16], words: &[u32], i: usize, o: usize, p: [u32; 2]) -> bool
-    requires { ⌜ LinksWords (now links) (now words) ⌝ ∗ ⌜ CapSlot i ⌝ ∗ ⌜ 1 ≤ o ⌝ }
-    ensures { λ r. ⌜ ((b : List ℕ) → r ≡ held (view b (now (links .entry)) (now (words .entry))) o (passwordOf p) i) ⌝ }
-{
-    if slot(links[OWNER + i]) == o {
-        if words[P1 + i] == p[0] {
-            return words[P2 + i] == p[1];
-        }
-        return false;
-    }
-    false
-}
-
-// The slot of the capability of object o with this password, 0 if there is none.
-fn find_held(links: &[u16], words: &[u32], o: usize, p: [u32; 2]) -> usize
-    requires { ⌜ LinksWords (now links) (now words) ⌝ ∗ ⌜ 1 ≤ o ⌝ }
-    ensures { λ r. ⌜ ((b : List ℕ)
-        → r ≡ find Limit.caps (held (view b (now (links .entry)) (now (words .entry))) o (passwordOf p))) ⌝ }
-{
-    let p1 = p[0];
-    let mut i = last_p1(words, MAX_CAPS, p1);
-    while 0 < i {
-        if is_held(links, words, i, o, p) {
-            return i;
-        }
-        i = last_p1(words, i - 1, p1);
-    }
-    0
-}
 
 // The slot of the capability that the process in slot me presents, 0 if there is none.
 fn present(bytes: &[u8], links: &[u16], words: &[u32], me: usize, x: Capability) -> usize
@@ -76,7 +36,10 @@ fn present(bytes: &[u8], links: &[u16], words: &[u32], me: usize, x: Capability)
     }
     let lock = [words[LOCK1 + me], words[LOCK2 + me]];
     let given = x.password;
-    find_held(links, words, o, unlock(given, lock))
+    let p = unlock(given, lock);
+    let k = find_cap(links, words, o, p[0]);
+    // where there is none k is 0, and so is the answer
+    if words[P2 + k] == p[1] { k } else { 0 }
 }
 
 // The capability in slot k holds the right.

@@ -6,23 +6,8 @@ ghost use Rattle.rules.specs.Limit as Limit;
 ghost use Rattle.rules.specs.Slots.{some};
 ghost use Rattle.layout.specs.View.{view};
 ghost use Rattle.layout.specs.Sizes.{LinksWords};
-ghost use Rattle.call_steps.specs.Tests.{CapSlot, taken};
-use crate::groups::last_p1;
-use layout::OWNER;
-use layout::P1;
-use layout::slot;
-use values::limit::MAX_CAPS;
-
-// Slot i holds a capability of object o with this p1.
-fn has_p1(links: &[u16], words: &[u32], i: usize, o: usize, p1: u32) -> bool
-    requires { ⌜ LinksWords (now links) (now words) ⌝ ∗ ⌜ CapSlot i ⌝ ∗ ⌜ 1 ≤ o ⌝ }
-    ensures { λ r. ⌜ ((b : List ℕ) → r ≡ taken (view b (now (links .entry)) (now (words .entry))) o p1 i) ⌝ }
-{
-    if slot(links[OWNER + i]) == o {
-        return words[P1 + i] == p1;
-    }
-    false
-}
+ghost use Rattle.call_steps.specs.Tests.{taken};
+use crate::owned::find_cap;
 
 // Some capability of object o has this p1.
 pub fn p1_taken(links: &[u16], words: &[u32], o: usize, p1: u32) -> bool
@@ -30,12 +15,5 @@ pub fn p1_taken(links: &[u16], words: &[u32], o: usize, p1: u32) -> bool
     ensures { λ r. ⌜ ((b : List ℕ)
         → r ≡ some Limit.caps (taken (view b (now (links .entry)) (now (words .entry))) o p1)) ⌝ }
 {
-    let mut i = last_p1(words, MAX_CAPS, p1);
-    while 0 < i {
-        if has_p1(links, words, i, o, p1) {
-            return true;
-        }
-        i = last_p1(words, i - 1, p1);
-    }
-    false
+    find_cap(links, words, o, p1) != 0
 }

@@ -11,7 +11,7 @@ use Rattle.rules.specs.Call.{Capability}
 use Rattle.rules.specs.Password.{unlock, presented}
 use Rattle.rules.specs.Ledger.{Ledger, found}
 use Rattle.rules.proofs.Tests.{both-true, all2, all3, same-name, name-same, same-password, password-same}
-use Rattle.rules.proofs.Tests.{lives}
+use Rattle.rules.proofs.Tests.{lives, does-live}
 use Rattle.rules.proofs.Slots.{find-finds, find-some}
 use Rattle.rules.proofs.Lines.{linesOf}
 use Rattle.rules.proofs.Link.{Fits, Linking, fits-num}
@@ -68,6 +68,19 @@ shown s me x h =
       name = same-name n (x .name) (f .1);
       password = same-password (s .cap k .password) p (f .2);
     }
+
+-- where one is shown, one is found
+pub presents : (s : State) (me : ℕ) (x : Capability) (k : ℕ) → 1 ≤ k → k ≤ 512 → Shown s me x k → presented s me x ≢ 0
+unfolding presented
+presents s me x k low high S =
+    let p : Password = unlock (x .password) (s .lock me) in
+    let n : Name = s .object (s .cap k .object) .name in
+    find-some 512 (λ i. capLives s i
+    && sameName (s .object (s .cap i .object) .name) (x .name)
+    && samePassword (s .cap i .password) p) k low high
+    (both-true (capLives s k && sameName n (x .name)) (samePassword (s .cap k .password) p)
+    (both-true (capLives s k) (sameName n (x .name)) (does-live s k (S .lives)) (name-same n (x .name) (S .name)))
+    (password-same (s .cap k .password) p (S .password)))
 
 -- ---- the line found is the line of the capability presented
 

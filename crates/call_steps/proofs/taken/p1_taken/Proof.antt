@@ -1,80 +1,18 @@
--- `p1_taken` counts down as the rules' search does, from one slot with the p1 to the next.
-use Prim.Native.Nat.{ℕ, _-_, _≤_}
-use mathlib.Core.Path.{sym, _∙_}
-use mathlib.Core.List.{List}
-use native.Mathlib.Omega.{arith}
-use Rattle.layout.specs.View.{view}
-use Rattle.call_steps.specs.Tests.{SameFrom, taken}
-use Rattle.call_steps.proofs.Finding.{found-le, same-start, same-next, same-end}
-use Rattle.call_steps.proofs.Sharing.{taken-among, some-is, some-not}
+-- `p1_taken`: one is found.
+use borrow.Author.Needs.{needs}
+use mathlib.Core.Path.{ap}
+use mathlib.Core.Bool.{not}
+use lib.Dec.{eqb}
+use Rattle.rules.specs.Slots.{some}
 use Rattle.call_steps.proofs.taken.p1_taken.Statement.{statement}
 use Rattle.call_steps.proofs.taken.p1_taken.Tie as tie
 
-abbrev Inv-loop : tie.InvT-loop
-Inv-loop links words o p1 i₀ i =
-    (i ≤ 512) × ((b : List ℕ) → SameFrom (taken (view b links words) o p1) 512 i)
+find-cap-requires : tie.Need-find-cap-requires
+find-cap-requires c κs = search needs
 
-abbrev μ-loop : tie.MeasureT-loop
-μ-loop links words o p1 i₀ i = i
-
-last-p1-requires : tie.Need-last-p1-requires Inv-loop μ-loop
-last-p1-requires c κs = (c .before .before .pre .0 .words, omega arith)
-
-loop-holds : tie.Need-loop-holds Inv-loop μ-loop
-loop-holds c =
-    let s = c .before .before .before in
-    let a = s .args in (
-      omega (arith, found-le _ 512 _ (c .last-p1 .ensures)),
-      λ b. taken-among b (a .links .now) (a .words .now) (a .o) (a .p1) 512 (s .pre .1) (same-start _ 512)
-          _ (c .last-p1 .ensures),
-    )
-
-has-p1-requires : tie.Need-has-p1-requires Inv-loop μ-loop
-has-p1-requires c κs = omega arith
-
-returns : tie.Need-returns Inv-loop μ-loop
-returns c b =
-    let l = c .before .before .before .loop in
-    let test = c .before .has-p1 .ensures b in
-    some-is _ (l .i) (omega arith) (l .inv .1 b .same) (sym test ∙ c .if1 .taken)
-
-sub-last-p1 : tie.Need-sub-last-p1 Inv-loop μ-loop
-sub-last-p1 c = omega arith
-
-last-p1-requires-2 : tie.Need-last-p1-requires-2 Inv-loop μ-loop
-last-p1-requires-2 c κs = omega arith
-
-loop-less : tie.Need-loop-less Inv-loop μ-loop
-loop-less c =
-    let l = c .before .before .before .before .loop in
-    omega (arith, found-le _ (l .i - 1) _ (c .last-p12 .ensures))
-
-loop-again : tie.Need-loop-again Inv-loop μ-loop
-loop-again c =
-    let l = c .before .before .before .before .loop in
-    let test = c .before .before .has-p1 .ensures in
-    let s = c .before .before .before .before .before .before .before .before in
-    let a = s .args in (
-      omega (arith, found-le _ (l .i - 1) _ (c .last-p12 .ensures)),
-      λ b. taken-among b (a .links .now) (a .words .now) (a .o) (a .p1) (l .i - 1) (s .pre .1)
-          (same-next _ (l .inv .1 b) (omega arith) (sym (test b) ∙ c .before .if1 .left)) _ (c .last-p12 .ensures),
-    )
-
-returns-2 : tie.Need-returns-2 Inv-loop μ-loop
-returns-2 c b = some-not _ (sym (same-end _ (c .before .loop .inv .1 b) (omega arith)))
+returns : tie.Need-returns
+unfolding some
+returns c b = ap (λ k. not (eqb k 0)) (c .find-cap .ensures b)
 
 pub p1-taken-spec : {M : Type 1} → statement M
-p1-taken-spec =
-    tie.close
-    (tie.spec
-    Inv-loop
-    μ-loop
-    last-p1-requires
-    loop-holds
-    has-p1-requires
-    returns
-    sub-last-p1
-    last-p1-requires-2
-    loop-less
-    loop-again
-    returns-2)
+p1-taken-spec = tie.close (tie.spec find-cap-requires returns)

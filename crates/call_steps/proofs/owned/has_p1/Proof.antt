@@ -2,8 +2,8 @@
 use borrow.Author.Needs.{needs}
 use Rattle.call_steps.proofs.Sharing.{taken-else, taken-here}
 use native.Mathlib.Omega.{arith}
-use Rattle.call_steps.proofs.taken.has_p1.Statement.{statement}
-use Rattle.call_steps.proofs.taken.has_p1.Tie as tie
+use Rattle.call_steps.proofs.owned.has_p1.Statement.{statement}
+use Rattle.call_steps.proofs.owned.has_p1.Tie as tie
 
 add-slot : tie.Need-add-slot
 add-slot c = search needs
