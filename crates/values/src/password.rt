@@ -1,7 +1,7 @@
 // Passwords and lockwords are arrays of two 32-bit words, by value.
 ghost use mathlib.Core.Path.{_≡_};
 ghost use Rattle.rules.specs.Password.{unlock};
-ghost use Rattle.values.specs.Words.{passwordOf, lockwordOf, xorOf};
+ghost use Rattle.values.specs.Words.{passwordOf, lockwordOf, xorOf, topBit};
 use crate::limit::TOP;
 
 // The two words of a, each XORed with that of b.
@@ -11,9 +11,20 @@ pub fn xor_words(a: [u32; 2], b: [u32; 2]) -> [u32; 2]
     [a[0] ^ b[0], a[1] ^ b[1]]
 }
 
-// The password as it is looked up: with p1 of 2,147,483,648 or more, both halves are XORed with the lockword.
+// The top bit of a word.
+fn top_bit(x: u32) -> u32
+    ensures { λ r. ⌜ r ≡ topBit x ⌝ }
+{
+    x / TOP
+}
+
+// The password as it is looked up: the lockword times p1's top bit is XORed in, always; nothing branches on that bit.
 pub fn unlock(p: [u32; 2], lock: [u32; 2]) -> [u32; 2]
     ensures { λ r. ⌜ passwordOf r ≡ unlock (passwordOf p) (lockwordOf lock) ⌝ }
 {
-    if p[0] >= TOP { xor_words(p, lock) } else { p }
+    let p1 = p[0];
+    let first = lock[0];
+    let second = lock[1];
+    let top = top_bit(p1);
+    xor_words(p, [first * top, second * top])
 }
