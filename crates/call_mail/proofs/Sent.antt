@@ -181,8 +181,7 @@ module _ (b l w : List ℕ) (Z : Sized b l w) (C : Cells b l) (text : List ℕ) 
   pub sent-cash : view b′ l w′ .cash ≡ at (view b l w .cash) me (view b l w .cash me - sum)
   sent-cash =
       let f : flagOf b′ ≡ flagOf b = sent-boxed .flag in
-      let h : isProcess (masterOf l) (flagOf b) me ≡ true =
-      is-process M in
+      let h = is-process M in
       at-is (view b l w .cash) (view b′ l w′ .cash) me (view b l w .cash me - sum)
       (cash-here b′ l w′ me (rw f h)
       ∙ (λ k. spent k me) ∙ at-here (cashOf w) me _ ∙ ap (λ x. x - sum) (sym (cash-here b l w me h)))

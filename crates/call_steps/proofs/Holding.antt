@@ -12,7 +12,7 @@ use Rattle.rules.specs.Store.{Cap, Password, State, objectNamed}
 use Rattle.rules.specs.Valid.{Lives, Formed}
 use Rattle.rules.specs.Call.{Capability}
 use Rattle.rules.specs.Password.{unlock, presented}
-use Rattle.rules.proofs.Tests.{by-eq, both-true, all2, lives}
+use Rattle.rules.proofs.Tests.{by-eq, both-true, all2}
 use Rattle.rules.proofs.Slots.{find-finds, find-some}
 use Rattle.rules.proofs.Presenting.{named, found-live, not-named, shown, presents}
 use Rattle.layout.specs.Layout as Layout
@@ -27,7 +27,18 @@ use Rattle.call_steps.proofs.Process.{is-process}
 
 -- ---- the search
 
-module _ (s : State) (G : Formed s) (me : ℕ) (x : Capability) where
+-- slot r is slot k where k's cell has this p2, otherwise 0
+pub record ByP2 (w : List ℕ) (k p2 r : ℕ) : Type 0 where
+  pub here : getD w (Layout.P2 + k) 0 ≡ p2 → k ≡ r
+  pub else : getD w (Layout.P2 + k) 0 ≢ p2 → 0 ≡ r
+
+module _ (b l w : List ℕ) (W : Plain b l w) (me : ℕ) (x : Capability) where
+  abbrev s : State
+  s = view b l w
+
+  abbrev G : Formed s
+  G = W .valid .formed
+
   -- no object has the name
   pub present-none : objectNamed s (x .name) ≡ 0 → presented s me x ≡ 0
   present-none e = by-eq (presented s me x) 0 (λ z. z) (λ h.
@@ -49,6 +60,15 @@ module _ (s : State) (G : Formed s) (me : ℕ) (x : Capability) where
         let h = all2 (eqb (s .cap k .object) o) (eqb (s .cap k .password .p1) (p .p1)) g in
         (eqb-true _ _ (h .0), eqb-true _ _ (h .1))
 
+    lives : k ≢ 0 → Lives (s .cap) k
+    lives nz z = some (sym (has-p1 nz .0) ∙ z)
+
+    cell : k ≢ 0 → s .cap k .password .p2 ≡ getD w (Layout.P2 + k) 0
+    cell nz =
+        let c = G .caps .live k (lives nz) in
+        ap (λ (r : Cap). r .password .p2) (cap-here b l w k (cap-lives b l w k (lives nz)))
+        ∙ field-in 512 Layout.P2 w k (c .some) (c .low)
+
     -- a p1 is unique in its object: what is presented stands in slot k
     by-p1 : presented s me x ≢ 0 → presented s me x ≡ k
     unfolding taken
@@ -64,53 +84,27 @@ module _ (s : State) (G : Formed s) (me : ℕ) (x : Capability) where
         (eq-eqb _ _ owner) (eq-eqb _ _ p1) in
         let found : k ≢ 0 = λ z. find-some 512 (taken s o (p .p1)) j (c .some) (c .low) t (sym f ∙ z) in
         let h = has-p1 found in
-        G .caps .passwords j k (S .lives) (λ z. some (sym (h .0) ∙ z)) (owner ∙ sym (h .0)) (p1 ∙ sym (h .1))
+        G .caps .passwords j k (S .lives) (lives found) (owner ∙ sym (h .0)) (p1 ∙ sym (h .1))
 
-    -- p2 decides; where there is no slot k, the answer is 0 both ways
-    present-here : (k ≢ 0 → s .cap k .password .p2 ≡ p .p2) → k ≡ presented s me x
-    present-here h = by-eq k 0
-        (λ z. z ∙ sym (by-eq (presented s me x) 0 (λ y. y) (λ nz. absurd (nz (by-p1 nz ∙ z)))))
-        (λ nz.
-        let g = has-p1 nz in
-        let lives : Lives (s .cap) k = λ z. some (sym (g .0) ∙ z) in
-        let c = G .caps .live k lives in
-        let same : s .cap k .password ≡ p = ap₂ (λ a d. record { p1 = a; p2 = d }) (g .1) (h nz) in
-        sym (by-p1 (presents s me x k (c .some) (c .low) (record {
-          lives = lives;
-          name = ap (λ i. s .object i .name) (g .0) ∙ name-is;
-          password = same ∙ q;
-        }))))
-
-    present-else : (k ≢ 0 → s .cap k .password .p2 ≢ p .p2) → 0 ≡ presented s me x
-    present-else h = sym (by-eq (presented s me x) 0 (λ z. z) (λ nz.
-        absurd (h (λ z. nz (by-p1 nz ∙ z)) (ap (λ i. s .cap i .password .p2) (sym (by-p1 nz))
-        ∙ ap (λ (r : Password). r .p2) (shown s me x nz .password ∙ sym q)))))
-
--- slot r is slot k where k's cell has this p2, otherwise 0
-pub record ByP2 (w : List ℕ) (k p2 r : ℕ) : Type 0 where
-  pub here : getD w (Layout.P2 + k) 0 ≡ p2 → k ≡ r
-  pub else : getD w (Layout.P2 + k) 0 ≢ p2 → 0 ≡ r
-
--- the same of the cells
-module _ (b l w : List ℕ) (W : Plain b l w) (me : ℕ) (x : Capability)
-    (o : ℕ) (e : o ≡ objectNamed (view b l w) (x .name)) (some : o ≢ 0)
-    (p : Password) (q : p ≡ unlock (x .password) (view b l w .lock me))
-    (k : ℕ) (f : k ≡ find 512 (taken (view b l w) o (p .p1))) where
-  abbrev s : State
-  s = view b l w
-
-  cell : k ≢ 0 → s .cap k .password .p2 ≡ getD w (Layout.P2 + k) 0
-  cell nz =
-      let alive : ownerOf l k ≢ 0 =
-      λ z. some (sym (has-p1 s (W .valid .formed) me x o e some p q k f nz .0) ∙ cap-object b l w k ∙ z) in
-      ap (λ (c : Cap). c .password .p2) (cap-here b l w k alive)
-      ∙ field-in 512 Layout.P2 w k (field-low 512 Layout.OWNER l k alive) (field-high 512 Layout.OWNER l k alive)
-
-  pub present-by : ByP2 w k (p .p2) (presented s me x)
-  present-by = record {
-    here = λ h. present-here s (W .valid .formed) me x o e some p q k f (λ nz. cell nz ∙ h);
-    else = λ h. present-else s (W .valid .formed) me x o e some p q k f (λ nz y. h (sym (cell nz) ∙ y));
-  }
+    -- and p2 decides; where nothing has the p1 the answer is 0 both ways
+    pub present-by : ByP2 w k (p .p2) (presented s me x)
+    present-by = record {
+      here = λ h. by-eq k 0
+          (λ z. z ∙ sym (by-eq (presented s me x) 0 (λ y. y) (λ nz. absurd (nz (by-p1 nz ∙ z)))))
+          (λ nz.
+          let g = has-p1 nz in
+          let c = G .caps .live k (lives nz) in
+          let same : s .cap k .password ≡ p = ap₂ (λ a d. record { p1 = a; p2 = d }) (g .1) (cell nz ∙ h) in
+          sym (by-p1 (presents s me x k (c .some) (c .low) (record {
+            lives = lives nz;
+            name = ap (λ i. s .object i .name) (g .0) ∙ name-is;
+            password = same ∙ q;
+          }))));
+      else = λ h. sym (by-eq (presented s me x) 0 (λ z. z) (λ nz.
+          let at = by-p1 nz in
+          absurd (h (sym (cell (λ z. nz (at ∙ z))) ∙ ap (λ i. s .cap i .password .p2) (sym at)
+          ∙ ap (λ (r : Password). r .p2) (shown s me x nz .password ∙ sym q)))));
+    }
 
 -- ---- what is presented is held
 

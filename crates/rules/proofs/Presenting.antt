@@ -52,35 +52,36 @@ pub record Shown (s : State) (me : ℕ) (x : Capability) (k : ℕ) : Type 0 wher
   pub name : s .object (s .cap k .object) .name ≡ x .name
   pub password : s .cap k .password ≡ unlock (x .password) (s .lock me)
 
-pub shown : (s : State) (me : ℕ) (x : Capability) → presented s me x ≢ 0 → Shown s me x (presented s me x)
-unfolding presented
-shown s me x h =
-    let p : Password = unlock (x .password) (s .lock me) in
-    let t : ℕ → Bool = λ i. capLives s i
-    && sameName (s .object (s .cap i .object) .name) (x .name)
-    && samePassword (s .cap i .password) p in
-    let k : ℕ = find 512 t in
-    let n : Name = s .object (s .cap k .object) .name in
-    let f = all3 (capLives s k) (sameName n (x .name)) (samePassword (s .cap k .password) p)
-    (find-finds 512 t h .0) in
-    record {
-      lives = lives s k (f .0);
-      name = same-name n (x .name) (f .1);
-      password = same-password (s .cap k .password) p (f .2);
-    }
+module _ (s : State) (me : ℕ) (x : Capability) where
+  -- the test by which `presented` finds a slot
+  abbrev fits : ℕ → Bool
+  fits i =
+      capLives s i
+      && sameName (s .object (s .cap i .object) .name) (x .name)
+      && samePassword (s .cap i .password) (unlock (x .password) (s .lock me))
 
--- where one is shown, one is found
-pub presents : (s : State) (me : ℕ) (x : Capability) (k : ℕ) → 1 ≤ k → k ≤ 512 → Shown s me x k → presented s me x ≢ 0
-unfolding presented
-presents s me x k low high S =
-    let p : Password = unlock (x .password) (s .lock me) in
-    let n : Name = s .object (s .cap k .object) .name in
-    find-some 512 (λ i. capLives s i
-    && sameName (s .object (s .cap i .object) .name) (x .name)
-    && samePassword (s .cap i .password) p) k low high
-    (both-true (capLives s k && sameName n (x .name)) (samePassword (s .cap k .password) p)
-    (both-true (capLives s k) (sameName n (x .name)) (does-live s k (S .lives)) (name-same n (x .name) (S .name)))
-    (password-same (s .cap k .password) p (S .password)))
+  pub shown : presented s me x ≢ 0 → Shown s me x (presented s me x)
+  unfolding presented
+  shown h =
+      let k : ℕ = find 512 fits in
+      let f = all3 (capLives s k) (sameName (s .object (s .cap k .object) .name) (x .name))
+      (samePassword (s .cap k .password) (unlock (x .password) (s .lock me))) (find-finds 512 fits h .0) in
+      record {
+        lives = lives s k (f .0);
+        name = same-name _ (x .name) (f .1);
+        password = same-password (s .cap k .password) _ (f .2);
+      }
+
+  -- where one is shown, one is found
+  pub presents : (k : ℕ) → 1 ≤ k → k ≤ 512 → Shown s me x k → presented s me x ≢ 0
+  unfolding presented
+  presents k low high S =
+      let n : Name = s .object (s .cap k .object) .name in
+      let p : Password = unlock (x .password) (s .lock me) in
+      find-some 512 fits k low high
+      (both-true (capLives s k && sameName n (x .name)) (samePassword (s .cap k .password) p)
+      (both-true (capLives s k) (sameName n (x .name)) (does-live s k (S .lives)) (name-same n (x .name) (S .name)))
+      (password-same (s .cap k .password) p (S .password)))
 
 -- ---- the line found is the line of the capability presented
 

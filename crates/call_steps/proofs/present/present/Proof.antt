@@ -24,8 +24,9 @@ returns : tie.Need-returns
 returns c =
     let f = c .before in
     let s = f .before .before .before .before in
-    sym (present-none (state s) (s .pre .0 .valid .formed) (s .args .me) (capabilityOf (s .args .x))
-    (sym (f .find-object .ensures (s .args .words .now)) ∙ c .if1 .taken))
+    let a = s .args in
+    sym (present-none (a .bytes .now) (a .links .now) (a .words .now) (s .pre .0) (a .me) (capabilityOf (a .x))
+    (sym (f .find-object .ensures (a .words .now)) ∙ c .if1 .taken))
 
 add-find-cap : tie.Need-add-find-cap
 add-find-cap c = search needs
