@@ -9,7 +9,6 @@ use reference::kernel::Store;
 use reference::ledger::Ledger;
 use reference::numbers::*;
 use trials::coverage::refusals;
-use trials::damage::{damage, Kind};
 use trials::encode::encode;
 use trials::generate::Generator;
 use trials::layout::{BYTES, FIRST_CHILD, LINKS, MASTER, NEXT_CAP, P1, P2, WORDS};
@@ -17,7 +16,7 @@ use trials::oracle::well_formed;
 use trials::profiles::PROFILES;
 use trials::random::Random;
 use trials::raw::RawStore;
-use trials::samples::{shaped, stores_of_runs, Shape};
+use trials::samples::{damaged_stores_of_runs, shaped, Shape};
 
 /// Calls of each half, of which there are two.
 const CALLS: u64 = 500_000;
@@ -113,24 +112,15 @@ fn calls_on_full_stores() {
 /// A call on a store that is not well formed is answered 1 and changes nothing.
 #[test]
 fn calls_on_damaged_stores() {
-    let kinds = Kind::all();
-    let mut random = Random::new(12);
+    let (mut generator, mut random) = (Generator::new(PROFILES[0], 12), Random::new(12));
     let mut refused = 0;
-    stores_of_runs(3, 10, &mut |store: &Store| {
-        let mut generator = Generator::new(PROFILES[0], random.bits());
-        for _ in 0..8 {
-            let mut raw = encode(store, &mut random);
-            damage(&mut raw, &kinds, 1, &mut random);
-            if well_formed(&raw) {
-                continue;
-            }
-            let before = raw.clone();
-            let call = generator.next_call(store);
-            let expected = Answer { code: ILL_FORMED, ..Answer::default() };
-            assert_eq!(call_raw(&mut raw, &call, &expected, &mut random), expected);
-            assert!(raw == before, "changed: {call:?}");
-            refused += 1;
-        }
+    damaged_stores_of_runs(10, &mut random, &mut |store, mut raw, random| {
+        let before = raw.clone();
+        let call = generator.next_call(store);
+        let expected = Answer { code: ILL_FORMED, ..Answer::default() };
+        assert_eq!(call_raw(&mut raw, &call, &expected, random), expected);
+        assert!(raw == before, "changed: {call:?}");
+        refused += 1;
     });
     println!("{refused} damaged stores");
     assert!(refused > 1_000);

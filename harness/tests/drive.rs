@@ -1,24 +1,25 @@
 //! The verified loom drive and the question for a window beside the reference: what they give,
 //! every byte of the buffer, and the meaning of the whole store after each pick.
 
+use harness::hall::{by_boss, hall, BLIND, BOSS, CARDS, ROWS, WEAVER};
 use harness::kernel::{self, FormedStore};
+use harness::lengths::{other_lengths, RESIZES};
 use harness::pair::{pick_by, window_raw, Answers, Pair};
 use harness::request::{pick_request, window_request, PICK_REPLY, WINDOW_REPLY};
-use reference::call::{Action, Call, Key, Name, Operation};
+use reference::call::{Action, Operation};
 use reference::drive::{Pick, Picked, Place, Repeat};
 use reference::kernel::Store;
 use reference::numbers::*;
 use std::collections::{BTreeMap, BTreeSet};
-use trials::damage::{damage, Kind};
 use trials::encode::encode;
 use trials::generate::Generator;
-use trials::layout::{BYTES, LINKS, WORDS};
+use trials::met::Met;
 use trials::oracle::well_formed;
-use trials::picks::Met;
+use trials::picks::SCENES;
 use trials::profiles::{profile, PROFILES};
 use trials::random::Random;
 use trials::raw::RawStore;
-use trials::samples::stores_of_runs;
+use trials::samples::damaged_stores_of_runs;
 
 /// How many runs of each profile are made.
 const RUNS: u64 = 3;
@@ -27,7 +28,7 @@ const RUNS: u64 = 3;
 type Codes = BTreeMap<u32, u64>;
 
 /// A run of each profile, laid out anew now and then, with a question and picks after each call.
-fn runs(seed: u64, met: &mut Met, windows: &mut Codes) {
+fn runs(seed: u64, met: &mut Met<Pick>, windows: &mut Codes) {
     for profile in PROFILES {
         let mut generator = Generator::new(profile, seed);
         let mut random = Random::new(seed);
@@ -54,7 +55,7 @@ fn runs(seed: u64, met: &mut Met, windows: &mut Codes) {
 
 #[test]
 fn random_picks() {
-    let (mut met, mut windows) = (Met::default(), Codes::new());
+    let (mut met, mut windows) = (Met::new(&[&SCENES]), Codes::new());
     (1..=RUNS).for_each(|seed| runs(seed, &mut met, &mut windows));
     for (scene, code, count) in met.counts() {
         println!("pick {code:>2} {scene:32}{count:>8}");
@@ -86,34 +87,20 @@ fn on_damaged(raw: &mut RawStore, pick: &Pick, random: &mut Random) -> u32 {
 
 #[test]
 fn damaged_stores() {
-    let (kinds, faults) = (Kind::all(), profile("faults").expect("a profile"));
-    let mut random = Random::new(22);
+    let faults = profile("faults").expect("a profile");
+    let (mut generator, mut random) = (Generator::new(faults, 22), Random::new(22));
     let mut counts = Codes::new();
-    stores_of_runs(3, 20, &mut |store: &Store| {
-        let mut generator = Generator::new(faults, random.bits());
-        for _ in 0..8 {
-            let mut raw = encode(store, &mut random);
-            damage(&mut raw, &kinds, 1, &mut random);
-            if !well_formed(&raw) {
-                let code = on_damaged(&mut raw, &generator.next_pick(store), &mut random);
-                *counts.entry(code).or_default() += 1;
-            }
-        }
+    damaged_stores_of_runs(20, &mut random, &mut |store, mut raw, random| {
+        let code = on_damaged(&mut raw, &generator.next_pick(store), random);
+        *counts.entry(code).or_default() += 1;
     });
     println!("{counts:?}");
     assert!(counts.values().all(|count| *count > 100) && counts.len() == 2);
 }
 
-/// The fresh store's process, another that weaves, and the rows.
-const BOSS: Key = Key { name: Name { volume: 0, serial: 1 }, p1: 5, p2: 9 };
-const WEAVER: Key = Key { name: Name { volume: 1, serial: 2 }, p1: 11, p2: 12 };
-const CARDS: Key = Key { name: Name { volume: 2, serial: 3 }, p1: 21, p2: 22 };
-const ROWS: Key = Key { p1: 31, p2: 32, ..CARDS };
-/// The rows without the right to read them.
-const BLIND: Key = Key { p1: 41, ..ROWS };
-
 /// 640 mm at 20 picks to the centimetre.
 const REPEAT: Repeat = Repeat { picks: 64 * 20, counts: 100_003, row: 6 };
+const LENGTH: u32 = REPEAT.picks * REPEAT.row;
 const PICK: Pick = Pick {
     caller: WEAVER.name,
     key: ROWS,
@@ -121,36 +108,6 @@ const PICK: Pick = Pick {
     place: Place::START,
     buffer: MIN_BUFFER,
 };
-
-/// The boss does something, which is done.
-fn by_boss(pair: &mut Pair, operation: Operation, random: &mut Random) {
-    let (buffer, scratch) = (MIN_BUFFER, MIN_SCRATCH);
-    let call = Call { caller: BOSS.name, operation, buffer, scratch };
-    assert_eq!(pair.call(&call, random, &mut Answers::new()), DONE, "{call:?}");
-}
-
-/// A weaver without cash, and rows at random in the window of two capabilities that are no masters.
-fn hall(random: &mut Random) -> Pair {
-    let store = Store::fresh(100_000, BOSS.p1, BOSS.p2);
-    let mut pair = Pair { raw: encode(&store, random), store };
-    for (drawn, size, flag) in [(WEAVER, 0, 1), (CARDS, MAX_SIZE, 0)] {
-        let make = Operation::MakeObj { size, flag, rights: MAX_RIGHTS, drawn };
-        by_boss(&mut pair, make, random);
-    }
-    by_boss(&mut pair, Operation::On(WEAVER, Action::Resume), random);
-    for start in (0..MAX_SIZE).step_by(MAX_TRANSFER as usize) {
-        let data = random.bytes(MAX_TRANSFER as usize);
-        let write = Action::Write { start, end: start + MAX_TRANSFER, data };
-        by_boss(&mut pair, Operation::On(CARDS, write), random);
-    }
-    let (start, limit) = (77, DEFAULT_LIMIT);
-    let end = start + REPEAT.picks * REPEAT.row;
-    for (Key { p1, p2, .. }, mask) in [(ROWS, right::READ), (BLIND, MAX_RIGHTS & !right::READ)] {
-        let derive = Action::DeriveCap { mask, start, end, limit, p1, p2 };
-        by_boss(&mut pair, Operation::On(CARDS, derive), random);
-    }
-    pair
-}
 
 /// A fault in a pick.
 type Fault = fn(&mut Pick);
@@ -175,7 +132,7 @@ const FAULTS: [Fault; 11] = [
 #[test]
 fn two_faults() {
     let mut random = Random::new(25);
-    let mut pair = hall(&mut random);
+    let mut pair = hall(LENGTH, &mut random);
     let mut codes = BTreeSet::new();
     for (first, second) in FAULTS.iter().flat_map(|a| FAULTS.iter().map(move |b| (a, b))) {
         for caller in [BOSS.name, WEAVER.name] {
@@ -189,23 +146,11 @@ fn two_faults() {
     assert_eq!(codes, BTreeSet::from(all));
 }
 
-/// A change of the slices' lengths.
-type Resize = fn(&mut RawStore);
-
 #[test]
 fn slices_of_other_lengths() {
     let mut random = Random::new(26);
-    let sound = hall(&mut random).raw;
-    let resizes: [Resize; 7] = [
-        |raw| raw.bytes.truncate(BYTES - 1),
-        |raw| raw.bytes.push(0),
-        |raw| raw.links.truncate(LINKS - 1),
-        |raw| raw.links.push(0),
-        |raw| raw.words.truncate(WORDS - 1),
-        |raw| raw.words.push(0),
-        |raw| *raw = RawStore::default(),
-    ];
-    for resize in resizes {
+    let sound = hall(LENGTH, &mut random).raw;
+    for resize in RESIZES {
         let mut raw = sound.clone();
         resize(&mut raw);
         assert_eq!(on_damaged(&mut raw, &PICK, &mut random), ILL_FORMED);
@@ -222,7 +167,7 @@ fn slices_of_other_lengths() {
 #[test]
 fn a_repeat_with_refused_picks() {
     let mut random = Random::new(23);
-    let mut pair = hall(&mut random);
+    let mut pair = hall(LENGTH, &mut random);
     let (mut pick, mut total, mut done, mut poor) = (PICK, 0, 0, 0);
     while done < REPEAT.picks {
         let mut spoilt = pick;
@@ -242,30 +187,12 @@ fn a_repeat_with_refused_picks() {
     assert_eq!((pick.place, total, poor), (Place::START, REPEAT.counts, 2));
 }
 
-/// The numbers with other lengths: as far as they go, or with more behind them.
-fn resized(numbers: &[u32]) -> Vec<Vec<u32>> {
-    let length = numbers.len();
-    let lengths = [0, 1, length - 1, length + 1, 2 * length];
-    let resized = |to: usize| numbers.iter().copied().chain(0..).take(to).collect();
-    lengths.into_iter().map(resized).collect()
-}
-
-/// Requests and replies of which at least one has another length; a reply has anything in it.
-fn other_lengths(request: &[u32], reply: usize, random: &mut Random) -> Vec<[Vec<u32>; 2]> {
-    let reply: Vec<u32> = (0..reply).map(|_| random.bits() as u32).collect();
-    let (requests, replies) = (resized(request), resized(&reply));
-    let mut found: Vec<_> = requests.iter().map(|other| [other.clone(), reply.clone()]).collect();
-    found.extend(replies.iter().map(|other| [request.to_vec(), other.clone()]));
-    found.extend(requests.into_iter().zip(replies).map(|(request, reply)| [request, reply]));
-    found
-}
-
 /// A request or a reply of another length is 2; by the question, it is 1 on a store that is not well
 /// formed. Nothing is written.
 #[test]
 fn requests_and_replies_of_other_lengths() {
     let mut random = Random::new(24);
-    let mut pair = hall(&mut random);
+    let mut pair = hall(LENGTH, &mut random);
     let pick = Pick { caller: BOSS.name, ..PICK };
     let mut damaged = pair.raw.clone();
     damaged.links.fill(0);

@@ -246,6 +246,26 @@ impl Generator {
         picked.or_else(|| self.random.pick(&all))
     }
 
+    /// The capability to present, and its window: mostly it is not empty.
+    pub(crate) fn window(
+        &mut self,
+        store: &Store,
+        caller: Name,
+        number: u32,
+    ) -> (Option<Place>, (u32, u32)) {
+        let mut drawn = (None, (0, 0));
+        for _ in 0..4 {
+            let target = self.target(store, caller, number);
+            let found = target.and_then(|place| store.capabilities.get(&place));
+            drawn = (target, found.map_or((0, 0), |c| (c.start, c.end)));
+            let (start, end) = drawn.1;
+            if start < end {
+                break;
+            }
+        }
+        drawn
+    }
+
     /// The newest capability, for a derive_cap that starts from it.
     fn derived_from(&mut self, store: &Store, number: u32) -> Option<Place> {
         if self.drawn.is_some_and(|drawn| store.capabilities.contains_key(&drawn)) {
@@ -313,7 +333,16 @@ impl Generator {
         if self.random.chance(200) {
             start = low;
         }
-        let mut end = self.random.between(start, high.min(start + MAX_TRANSFER));
+        let end = self.random.between(start, high.min(start + MAX_TRANSFER));
+        self.spoilt_range((start, end), (low, high))
+    }
+
+    /// The range, by faults outside the window, too long or with its ends exchanged.
+    pub(crate) fn spoilt_range(
+        &mut self,
+        (mut start, mut end): (u32, u32),
+        (low, high): (u32, u32),
+    ) -> (u32, u32) {
         if self.fault() {
             end = high + 1 + self.random.below(3);
         }
@@ -332,7 +361,8 @@ impl Generator {
         (start, end)
     }
 
-    fn data(&mut self, start: u32, end: u32) -> Vec<u8> {
+    /// The data of a write to this range; by a fault a byte more or less.
+    pub(crate) fn data(&mut self, start: u32, end: u32) -> Vec<u8> {
         let mut length = end.saturating_sub(start).min(2 * MAX_TRANSFER) as usize;
         if self.fault() {
             length = if self.random.chance(500) { length + 1 } else { length.saturating_sub(1) };

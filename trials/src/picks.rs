@@ -2,11 +2,10 @@
 //! capability, at a place that the repeat has. Some are spoilt, so that every answer is met.
 
 use crate::generate::Generator;
-use reference::call::Name;
+use crate::met::Scene;
 use reference::drive::{Pick, Picked, Place, Repeat};
-use reference::kernel::{self, Store};
+use reference::kernel::Store;
 use reference::numbers::*;
-use std::collections::BTreeMap;
 
 /// The call that a pick makes.
 const READ: u32 = 2;
@@ -16,27 +15,13 @@ impl Generator {
     pub fn next_pick(&mut self, store: &Store) -> Pick {
         self.draw_care();
         let caller = self.caller(store, READ);
-        let (target, window) = self.rows(store, caller);
-        let repeat = self.repeat(window);
+        let (target, (start, end)) = self.window(store, caller, READ);
+        let repeat = self.repeat(end - start);
         let place = self.place(&repeat);
         let key = self.present(store, caller, target);
         let mut pick = Pick { caller, key, repeat, place, buffer: self.length(MIN_BUFFER) };
         self.spoil(&mut pick);
         pick
-    }
-
-    /// The capability to present, and how long its window is: mostly it is not empty.
-    fn rows(&mut self, store: &Store, caller: Name) -> (Option<kernel::Place>, u32) {
-        let mut drawn = (None, 0);
-        for _ in 0..4 {
-            let target = self.target(store, caller, READ);
-            let found = target.and_then(|place| store.capabilities.get(&place));
-            drawn = (target, found.map_or(0, |c| c.end - c.start));
-            if drawn.1 > 0 {
-                break;
-            }
-        }
-        drawn
     }
 
     /// A repeat in range whose rows fill a window of this length, or do not by a fault.
@@ -98,11 +83,8 @@ impl Generator {
     }
 }
 
-/// What random picks must meet: its name, the answer, and which of the picks so answered meet it.
-type Scene = (&'static str, u32, fn(&Pick) -> bool);
-
 /// Every answer to a pick on a well-formed store, with the edges of each range.
-const SCENES: [Scene; 28] = [
+pub const SCENES: [Scene<Pick>; 28] = [
     ("one pick", DONE, |pick| pick.repeat.picks == 1),
     ("no counts", DONE, |pick| pick.repeat.counts == 0),
     ("fewer counts than picks", DONE, |pick| (1..pick.repeat.picks).contains(&pick.repeat.counts)),
@@ -154,23 +136,5 @@ fn steps_off(pick: &Pick) -> i64 {
         i64::from(pick.place.steps) - i64::from(righted.place.steps)
     } else {
         0
-    }
-}
-
-/// How often picks met each scene.
-#[derive(Default)]
-pub struct Met(BTreeMap<&'static str, u64>);
-
-impl Met {
-    /// Counts a pick and its answer's code.
-    pub fn note(&mut self, pick: &Pick, code: u32) {
-        let met = SCENES.iter().filter(|(_, answer, meets)| *answer == code && meets(pick));
-        met.for_each(|(scene, ..)| *self.0.entry(scene).or_default() += 1);
-    }
-
-    /// Every scene with its answer and its count.
-    pub fn counts(&self) -> impl Iterator<Item = (&'static str, u32, u64)> + '_ {
-        let count = |scene: &str| self.0.get(scene).copied().unwrap_or(0);
-        SCENES.iter().map(move |(scene, code, _)| (*scene, *code, count(scene)))
     }
 }

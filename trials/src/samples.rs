@@ -1,10 +1,13 @@
-//! Stores to try the checkers on: those met in random runs of all profiles, and full ones of
-//! given shapes.
+//! Stores to try the checkers on: those met in random runs of all profiles, the same damaged, and
+//! full ones of given shapes.
 
-use crate::encode::shuffled;
+use crate::damage::{damage, Kind};
+use crate::encode::{encode, shuffled};
 use crate::generate::Generator;
+use crate::oracle::well_formed;
 use crate::profiles::{Profile, PROFILES};
 use crate::random::Random;
+use crate::raw::RawStore;
 use reference::call::Name;
 use reference::kernel::{Capability, Object, Store};
 use reference::numbers::{MAX_CAPS, MAX_RIGHTS};
@@ -29,6 +32,25 @@ pub fn stores_of_runs(seed: u64, every: u32, visit: &mut impl FnMut(&Store)) {
     for profile in PROFILES {
         stores_of_run(profile, seed, every, visit);
     }
+}
+
+/// Hands out stores of one run of each profile, each with slices of it that are not well formed, by
+/// a damage in one place: up to eight times.
+pub fn damaged_stores_of_runs(
+    every: u32,
+    random: &mut Random,
+    visit: &mut impl FnMut(&Store, RawStore, &mut Random),
+) {
+    let kinds = Kind::all();
+    stores_of_runs(3, every, &mut |store: &Store| {
+        for _ in 0..8 {
+            let mut raw = encode(store, random);
+            damage(&mut raw, &kinds, 1, random);
+            if !well_formed(&raw) {
+                visit(store, raw, random);
+            }
+        }
+    });
 }
 
 /// The shape of an object's tree: which of the earlier capabilities a new one derives from.

@@ -9,7 +9,8 @@ use reference::kernel::Store;
 use reference::numbers::*;
 use trials::conditions::{holding, Condition};
 use trials::generate::Generator;
-use trials::picks::Met;
+use trials::met::Met;
+use trials::picks::SCENES;
 use trials::profiles::PROFILES;
 
 /// 02's whole part of i × C / N, divided.
@@ -109,7 +110,7 @@ fn compared(store: &mut Store, pick: &Pick) -> Picked {
 }
 
 /// A run of each profile with picks between the calls.
-fn runs(seed: u64, met: &mut Met) {
+fn runs(seed: u64, met: &mut Met<Pick>) {
     for profile in PROFILES {
         let mut generator = Generator::new(profile, seed);
         let [supply, p1, p2] = generator.first();
@@ -128,7 +129,7 @@ fn runs(seed: u64, met: &mut Met) {
 
 #[test]
 fn random_picks() {
-    let mut met = Met::default();
+    let mut met = Met::new(&[&SCENES]);
     (1..=4).for_each(|seed| runs(seed, &mut met));
     for (scene, code, count) in met.counts() {
         println!("{code:>2} {scene:32}{count:>8}");
