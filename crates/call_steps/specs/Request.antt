@@ -3,7 +3,7 @@ use Prim.Native.Nat.{ℕ}
 use mathlib.Core.List.{List, [], _∷_}
 use Rattle.rules.specs.Store as Store
 use Rattle.rules.specs.Call as Call
-use Rattle.rules.specs.Rights.{readNumber}
+use Rattle.rules.specs.Rights.{readNumber, writeNumber}
 use Rattle.values.specs.Words.{passwordOf, lockwordOf, windowOf}
 use Rattle.values.specs.declared.window.Window.{Window}
 use Rattle.call_steps.specs.declared.request.Name.{Name}
@@ -37,10 +37,10 @@ callOf r text buffer scratch = record {
   limit = r .limit;
 }
 
--- a read of this range; the arguments that it does not use are 0
-unfoldable pub readRequest : Name → Capability → Window → Request
-readRequest caller presented range = record {
-  number = readNumber;
+-- a call of this number with a range alone; the arguments that it does not use are 0
+unfoldable pub transferRequest : ℕ → Name → Capability → Window → Request
+transferRequest number caller presented range = record {
+  number = number;
   caller = caller;
   presented = presented;
   name = record { volume = 0; serial = 0 };
@@ -53,6 +53,12 @@ readRequest caller presented range = record {
   lock = 0 ∷ 0 ∷ [];
   limit = 0;
 }
+
+abbrev pub readRequest : Name → Capability → Window → Request
+readRequest caller presented range = transferRequest readNumber caller presented range
+
+abbrev pub writeRequest : Name → Capability → Window → Request
+writeRequest caller presented range = transferRequest writeNumber caller presented range
 
 -- with the bytes at the buffer's front
 unfoldable pub answerOf : Reply → List ℕ → Call.Answer

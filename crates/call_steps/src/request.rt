@@ -2,12 +2,13 @@
 ghost use mathlib.Core.Path.{_≡_};
 ghost use Rattle.rules.specs.Call.{noCapability, done, handsBack, tells};
 ghost use Rattle.values.specs.Words.{passwordOf};
-ghost use Rattle.call_steps.specs.Request.{nameOf, capabilityOf, readRequest};
+ghost use Rattle.call_steps.specs.Request.{nameOf, capabilityOf, transferRequest, readRequest, writeRequest};
 ghost use Rattle.call_steps.specs.Refuses.{Refuses};
 ghost use Rattle.call_steps.specs.Replies.{Gives, HandsOver};
 use values::code::DONE;
 use values::moneyword::Moneyword;
 use values::number::READ;
+use values::number::WRITE;
 use values::window::Window;
 
 // An object's name: its volume and a serial.
@@ -55,12 +56,12 @@ pub struct Request {
 }
 
 impl Request {
-    // A read of this range; the arguments that it does not use are 0.
-    pub fn read(caller: Name, presented: Capability, range: Window) -> Request
-        ensures { λ r. ⌜ r ≡ readRequest caller presented range ⌝ }
+    // A call with a range alone; the arguments that it does not use are 0.
+    fn transfer(number: u32, caller: Name, presented: Capability, range: Window) -> Request
+        ensures { λ r. ⌜ r ≡ transferRequest number caller presented range ⌝ }
     {
         Request {
-            number: READ,
+            number: number,
             caller: caller,
             presented: presented,
             name: Name {
@@ -76,6 +77,20 @@ impl Request {
             lock: [0, 0],
             limit: 0,
         }
+    }
+
+    // A read of this range.
+    pub fn read(caller: Name, presented: Capability, range: Window) -> Request
+        ensures { λ r. ⌜ r ≡ readRequest caller presented range ⌝ }
+    {
+        Request::transfer(READ, caller, presented, range)
+    }
+
+    // A write to this range.
+    pub fn write(caller: Name, presented: Capability, range: Window) -> Request
+        ensures { λ r. ⌜ r ≡ writeRequest caller presented range ⌝ }
+    {
+        Request::transfer(WRITE, caller, presented, range)
     }
 }
 

@@ -59,7 +59,7 @@ fits c o e r =
     ∙ all3 (nameFits (c .caller)) (not (presents (op (c .number))) || nameFits (c .presented .name))
     (argumentsFit (op (c .number)) c) r .2
 
-short : (w : Window) → transferFits w ≡ true → w .end - w .start ≤ Limit.transfer
+pub short : (w : Window) → transferFits w ≡ true → w .end - w .start ≤ Limit.transfer
 unfolding transferFits ordered
 short w h = leb-true _ _ (all2 (leb (w .start) (w .end)) (leb (w .end - w .start) Limit.transfer) h .1)
 

@@ -3,8 +3,7 @@ use Prim.Native.Nat.{ℕ}
 use mathlib.Core.Path.{_≡_, refl, sym, ap, _∙_, subst}
 use mathlib.Core.Logic.{_≢_}
 use mathlib.Core.Bool.{true, false, true≢false}
-use mathlib.Core.List.{List, [], _∷_}
-use native.Mathlib.Omega.{arith}
+use mathlib.Core.List.{List, []}
 use lib.ListN.{length}
 use Rattle.rules.specs.Code as Code
 use Rattle.call_steps.specs.declared.request.Name.{Name}
@@ -14,6 +13,7 @@ use Rattle.call_steps.specs.declared.request.Reply.{Reply}
 use Rattle.call_steps.specs.Request.{readRequest}
 use Rattle.kernel_step.specs.Slices.{Slices, slices}
 use Rattle.kernel_call.specs.Calls.{Calls}
+use Rattle.kernel_call.proofs.Calling.{no-cells}
 use Rattle.question_window.specs.declared.Windowed.{Windowed}
 use Rattle.question_window.specs.Asks.{Asks}
 use Rattle.product_drive.specs.declared.repeat.Repeat.{Repeat}
@@ -21,10 +21,6 @@ use Rattle.product_drive.specs.declared.repeat.Place.{Place}
 use Rattle.product_drive.specs.declared.picked.Picked.{Picked}
 use Rattle.product_drive.specs.Drive.{fits, rowOf}
 use Rattle.product_drive.specs.Picks.{refusedPick, pickedBy, unread, Picks}
-
-no-cells : (l : List ℕ) → length l ≡ 0 → l ≡ []
-no-cells [] z = refl
-no-cells (x ∷ l) z = absurd (omega arith)
 
 module _ (caller : Name) (x : Capability) (p : Repeat) (d : Place) (r : Picked) where
   pub pick-bad : (s : Slices) → fits p d ≡ false → r ≡ refusedPick Code.outOfRange d → Picks caller x p d r s s

@@ -1,12 +1,13 @@
 -- `read` is the request that the spec writes out.
-use mathlib.Core.Path.{refl}
-use Rattle.call_steps.specs.Request.{readRequest}
+use borrow.Author.Needs.{needs}
 use Rattle.call_steps.proofs.request.Request.read.Statement.{statement}
 use Rattle.call_steps.proofs.request.Request.read.Tie as tie
 
+transfer-requires : tie.Need-transfer-requires
+transfer-requires c κs = search needs
+
 returns : tie.Need-returns
-unfolding readRequest
-returns c = refl
+returns c = c .transfer .ensures
 
 pub read-spec : {M : Type 1} → statement M
-read-spec = tie.close (tie.spec returns)
+read-spec = tie.close (tie.spec transfer-requires returns)
