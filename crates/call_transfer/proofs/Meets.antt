@@ -2,15 +2,16 @@
 use Prim.Native.Nat.{ℕ, _+_, _-_, _≤_}
 use mathlib.Core.Path.{_≡_, refl, sym, ap}
 use mathlib.Core.Logic.{_≢_}
-use mathlib.Core.List.{List, append-assoc}
+use mathlib.Core.List.{List}
 use native.Mathlib.Omega.{arith}
-use lib.ListN.{length, take, drop}
+use lib.ListN.{length}
 use Rattle.rules.specs.Store.{State}
 use Rattle.rules.specs.Rights.{read, write, op}
 use Rattle.rules.specs.Call.{Call, done, handsOver}
 use Rattle.rules.specs.Refusals.{first}
-use Rattle.rules.specs.Calls.{liesIn, transferRefuses, refuses, does, readDoes, written, writeDoes}
+use Rattle.rules.specs.Calls.{liesIn, transferRefuses, refuses, does, readDoes, writeDoes}
 use Rattle.rules.proofs.Tests.{by-bool}
+use Rattle.rules.proofs.Parts.{written-is}
 use Rattle.layout.specs.Rows.{masterOf, sizeOf, firstBlockOf, ownerOf}
 use Rattle.layout.specs.View.{view}
 use Rattle.layout.specs.WellFormed.{Plain}
@@ -20,7 +21,7 @@ use Rattle.call_steps.proofs.Meeting.{takes, DoesPlain, plain-settled}
 use Rattle.call_transfer.specs.Runs.{range, inside, bytesIn, copiedIn, readRun, writeRun}
 use Rattle.call_transfer.proofs.Stops.{inside-no, ends-in}
 use Rattle.call_transfer.proofs.Requires.{target-of}
-use Rattle.call_transfer.proofs.Stored.{replaced, after-length, write-stored, write-cells}
+use Rattle.call_transfer.proofs.Stored.{after-length, write-stored, write-cells}
 
 module _ {b l w : List ℕ} (f : Plain b l w) (c : Call) (me k : ℕ) (h : Held l k) where
   abbrev s : State
@@ -52,12 +53,6 @@ module _ {b l w : List ℕ} (f : Plain b l w) (c : Call) (me k : ℕ) (h : Held 
 
   module _ (ordered : c .range .start ≤ c .range .end)
       (long : length (c .text) ≡ c .range .end - c .range .start) where
-    written-is : (xs : List ℕ) → replaced (c .range .start) (c .text) xs ≡ written s c me k xs
-    unfolding written
-    written-is xs =
-        let e : c .range .start + length (c .text) ≡ c .range .end = omega arith in
-        rw e (sym (append-assoc (take (c .range .start) xs) (c .text) (drop (c .range .end) xs)))
-
     abbrev after : List ℕ
     after = copiedIn l (firstBlockOf l (ownerOf l k)) (c .range .start) (c .text) (length (c .text)) b
 
@@ -68,7 +63,7 @@ module _ {b l w : List ℕ} (f : Plain b l w) (c : Call) (me k : ℕ) (h : Held 
         let room : c .range .start + length (c .text) ≤ sizeOf l o = omega arith in
         let B = f .blocks in
         record {
-          rules = rw (cap-object b l w k, ← written-is (s .bytes o))
+          rules = rw (cap-object b l w k, ← written-is s c me k (omega (arith, ordered, long)) (s .bytes o))
               (ap done (sym (write-stored b l (f .sized .bytes) B o alive (c .range .start) (c .text) room w)));
           sized = record {
             bytes = after-length b l (f .sized .bytes) B o alive (c .range .start) (c .text) room;

@@ -1,14 +1,13 @@
 -- What the code asks is so in a well-formed store, whatever the links of its trees: the object's blocks are there, and a
 -- window ends within its object.
 use Prim.Native.Nat.{ℕ, _-_, _≤_}
-use mathlib.Core.Path.{_≡_, sym, ap, _∙_}
+use mathlib.Core.Path.{_≡_, ap, _∙_}
 use mathlib.Core.Logic.{_≢_}
 use mathlib.Core.List.{List}
 use native.Mathlib.Omega.{arith}
 use lib.ListN.{length}
-use Rattle.rules.specs.Store.{Object, Cap, State, rootOf}
-use Rattle.rules.specs.Valid.{Lives, Formed}
-use Rattle.rules.proofs.Forest.{master-in, master-unique}
+use Rattle.rules.specs.Store.{Object, Cap, State}
+use Rattle.rules.proofs.Keeping.{end-size}
 use Rattle.layout.specs.Rows as Rows
 use Rattle.layout.specs.Rows.{sizeOf, ownerOf, endOf}
 use Rattle.layout.specs.View.{view}
@@ -20,17 +19,6 @@ use Rattle.call_steps.proofs.Holding as Holding
 use Rattle.call_transfer.specs.Runs.{BlocksHold, ReadAsks, WriteAsks}
 use Rattle.call_transfer.proofs.Apart.{chain-is, chain-long}
 
--- a window lies in the master's, which ends at the size
-end-fits : (s : State) → Formed s → (k : ℕ) → Lives (s .cap) k
-    → s .cap k .window .end ≤ s .object (s .cap k .object) .size
-end-fits s G k h =
-    let C = G .caps in
-    let m = G .master (s .cap k .object) (C .live k h .owned) in
-    let lives : Lives (s .cap) (m .0) = λ z. h (sym (m .1 .of) ∙ z) in
-    let same : rootOf s k ≡ m .0 = master-unique s C k (m .0) h lives (m .1 .parent) (sym (m .1 .of)) in
-    let end : s .cap (rootOf s k) .window .end ≡ s .cap (m .0) .window .end = ap (λ i. s .cap i .window .end) same in
-    omega (arith, master-in s C k h .window .end, end, m .1 .end)
-
 module _ {b l w : List ℕ} {k : ℕ} (f : Plain b l w) (h : Held l k) where
   end-here : Rows.masterOf l (ownerOf l k) ≢ 0 → endOf w k ≤ sizeOf l (ownerOf l k)
   end-here alive =
@@ -39,7 +27,7 @@ module _ {b l w : List ℕ} {k : ℕ} (f : Plain b l w) (h : Held l k) where
       let size : s .object (s .cap k .object) .size ≡ sizeOf l (ownerOf l k) =
       ap (λ o. s .object o .size) (cap-object b l w k)
       ∙ ap (λ (x : Object). x .size) (object-here b l w (ownerOf l k) alive) in
-      omega (arith, end-fits s (f .valid .formed) k (cap-shown b l w k (h .live)), end, size)
+      omega (arith, end-size s (f .valid .formed) k (cap-shown b l w k (h .live)), end, size)
 
   pub target-of : BlocksHold l w k
   target-of =

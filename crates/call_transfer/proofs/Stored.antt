@@ -2,14 +2,15 @@
 use Prim.Native.Nat.{ℕ, _+_, _*_, _-_, _≤_, _<_}
 use mathlib.Core.Path.{_≡_, refl, sym, ap, _∙_}
 use mathlib.Core.Logic.{_≢_}
-use mathlib.Core.List.{List, _++_}
+use mathlib.Core.List.{List}
 use native.Mathlib.Omega.{arith}
 use native.Mathlib.Decide.{decLe}
-use lib.ListN.{getD, take, drop, length, length-append, length-take, length-drop, List·getD-append}
-use lib.Seq.{getD-take, getD-drop, getD-append-add, ext-getD}
+use lib.ListN.{getD, take, drop, length}
+use lib.Seq.{ext-getD}
 use Rattle.rules.specs.Slots.{at}
 use Rattle.rules.specs.Update.{withBytes}
 use Rattle.rules.proofs.Tests.{by-eq}
+use Rattle.rules.proofs.Parts.{replaced, replaced-length, replaced-front, replaced-in, replaced-back}
 use Rattle.layout.specs.Layout as Layout
 use Rattle.layout.specs.Rows.{field, region, flagOf, masterOf, sizeOf, firstBlockOf, nextBlockOf, textIn, dataIn}
 use Rattle.layout.specs.View.{view}
@@ -25,42 +26,6 @@ use Rattle.call_transfer.specs.Runs.{cellOf, copiedIn, bytesIn}
 use Rattle.call_steps.proofs.Laid.{laid-length, laid-other, laid-at}
 use Rattle.call_transfer.proofs.Places.{bytes-in-length, byte-at}
 use Rattle.call_transfer.proofs.Apart.{low, high, chain-is, chain-long, cell-high, cells-apart, other-block}
-
--- ---- bytes with text from start on
-
-abbrev pub replaced : ℕ → List ℕ → List ℕ → List ℕ
-replaced start text xs = take start xs ++ (text ++ drop (start + length text) xs)
-
-module _ (start : ℕ) (text xs : List ℕ) (fits : start + length text ≤ length xs) where
-  front-length : length (take start xs) ≡ start
-  front-length = omega (arith, length-take start xs)
-
-  replaced-length : length (replaced start text xs) ≡ length xs
-  replaced-length = rw (length-append, length-append, length-take, length-drop) (omega arith)
-
-  replaced-front : (i : ℕ) → i < start → getD (replaced start text xs) i 0 ≡ getD xs i 0
-  replaced-front i h = List·getD-append (take start xs) (text ++ drop (start + length text) xs) 0 i
-      (omega (arith, front-length)) ∙ getD-take start xs i 0 h
-
-  replaced-on : (j : ℕ) → getD (replaced start text xs) (start + j) 0
-      ≡ getD (text ++ drop (start + length text) xs) j 0
-  replaced-on j =
-      ap (λ x. getD (replaced start text xs) (x + j) 0) (sym front-length)
-      ∙ getD-append-add (take start xs) (text ++ drop (start + length text) xs) j 0
-
-  replaced-in : (j : ℕ) → j < length text → getD (replaced start text xs) (start + j) 0 ≡ getD text j 0
-  replaced-in j h = replaced-on j ∙ List·getD-append text (drop (start + length text) xs) 0 j h
-
-  replaced-back : (i : ℕ) → start + length text ≤ i → getD (replaced start text xs) i 0 ≡ getD xs i 0
-  replaced-back i h =
-      let m : ℕ = i - (start + length text) in
-      let here : start + (length text + m) ≡ i = omega arith in
-      let there : start + length text + m ≡ i = omega arith in
-      ap (λ x. getD (replaced start text xs) x 0) (sym here)
-      ∙ replaced-on (length text + m)
-      ∙ getD-append-add text (drop (start + length text) xs) m 0
-      ∙ getD-drop (start + length text) xs m 0
-      ∙ ap (λ x. getD xs x 0) there
 
 -- ---- the cells after a write to the living object o
 

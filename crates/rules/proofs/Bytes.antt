@@ -36,6 +36,9 @@ pub record Bytes (s : State) (q : ℕ) (was : List ℕ) (r : State) : Type 0 whe
   pub kept : s .object q .live ≡ true → r .object q .live ≡ true → r .bytes q ≡ was
   -- a new one has zeros
   pub fresh : s .object q .live ≡ false → r .object q .live ≡ true → r .bytes q ≡ replicate (r .object q .size) 0
+  -- and where there is a new one, none ends
+  pub others : s .object q .live ≡ false → r .object q .live ≡ true
+      → (o : ℕ) → s .object o .live ≡ true → r .object o ≡ s .object o
 
 -- ---- a state that differs in other parts, or in slot o alone
 
@@ -44,6 +47,7 @@ same s q r o e = record {
   object = λ a b. ap (λ (f : ℕ → Object). f q) o;
   kept = λ a b. e;
   fresh = λ a b. absurd (true≢false (sym b ∙ ap (λ (f : ℕ → Object). f q .live) o ∙ a));
+  others = λ a b i e. ap (λ (f : ℕ → Object). f i) o;
 }
 
 -- to an object x with bytes xs: it was free, or it is now; x has zeros
@@ -55,8 +59,8 @@ module _ (s : State) (q o : ℕ) (x : Object) (xs : List ℕ) (r : State) (objec
   bytes-here : q ≡ o → r .bytes q ≡ xs
   bytes-here e = ap (λ (f : ℕ → List ℕ). f q) bytes ∙ ap (at (s .bytes) o xs) e ∙ at-here (s .bytes) o xs
 
-  object-else : q ≢ o → r .object q ≡ s .object q
-  object-else n = ap (λ (f : ℕ → Object). f q) objects ∙ at-else (s .object) o x q n
+  else-at : (i : ℕ) → i ≢ o → r .object i ≡ s .object i
+  else-at i n = ap (λ (f : ℕ → Object). f i) objects ∙ at-else (s .object) o x i n
 
   bytes-else : q ≢ o → r .bytes q ≡ s .bytes q
   bytes-else n = ap (λ (f : ℕ → List ℕ). f q) bytes ∙ at-else (s .bytes) o xs q n
@@ -72,13 +76,15 @@ module _ (s : State) (q o : ℕ) (x : Object) (xs : List ℕ) (r : State) (objec
         kept = λ a b. absurd (free (sym was ∙ a) (sym is ∙ b));
         fresh = λ a b.
             bytes-here e ∙ zeros (sym is ∙ b) ∙ ap (λ (y : Object). replicate (y .size) 0) (sym (object-here e));
+        others = λ a b i f. else-at i (λ z. true≢false (sym f ∙ ap (λ j. s .object j .live) (z ∙ sym e) ∙ a));
       })
       (λ n.
-      let is : r .object q .live ≡ s .object q .live = ap (λ (y : Object). y .live) (object-else n) in
+      let is : r .object q .live ≡ s .object q .live = ap (λ (y : Object). y .live) (else-at q n) in
       record {
-        object = λ a b. object-else n;
+        object = λ a b. else-at q n;
         kept = λ a b. bytes-else n;
         fresh = λ a b. absurd (true≢false (sym b ∙ is ∙ a));
+        others = λ a b. absurd (true≢false (sym b ∙ is ∙ a));
       })
 
 -- ---- a done call
@@ -104,6 +110,29 @@ module _ (s : State) (c : Call) (me k : ℕ) (q : ℕ) where
   bytesOf revive = s .bytes q
   bytesOf unknown = s .bytes q
 
+  -- a write's, or what they were
+  pub bytes-by : (P : List ℕ → Type 0) (o : Op) → P (s .bytes q)
+      → (o ≡ write → P (at (s .bytes) (s .cap k .object) (written s c me k (s .bytes (s .cap k .object))) q))
+      → P (bytesOf o)
+  unfolding bytesOf
+  bytes-by P makeObj a b = a
+  bytes-by P read a b = a
+  bytes-by P write a b = b refl
+  bytes-by P capInfo a b = a
+  bytes-by P deriveCap a b = a
+  bytes-by P deleteCap a b = a
+  bytes-by P renameObj a b = a
+  bytes-by P withdraw a b = a
+  bytes-by P deposit a b = a
+  bytes-by P suspend a b = a
+  bytes-by P resume a b = a
+  bytes-by P applyLock a b = a
+  bytes-by P send a b = a
+  bytes-by P receive a b = a
+  bytes-by P wait a b = a
+  bytes-by P revive a b = a
+  bytes-by P unknown a b = a
+
 module _ (s : State) (c : Call) (me k : ℕ) (h : Choice) (q : ℕ) where
   delete-bytes : Bytes s q (s .bytes q) (does s c me k h deleteCap .after)
   unfolding does done deleted endWhere withMoney withCap toHouse withHouse endObject newObject noObject
@@ -127,7 +156,12 @@ module _ (s : State) (c : Call) (me k : ℕ) (h : Choice) (q : ℕ) where
       changed s q (h .object) x (replicate (x .size) 0) _ refl refl (λ a b. true≢false (sym a ∙ g refl)) (λ b. refl)
   does-bytes read g = same s q _ refl refl
   does-bytes write g =
-      record { object = λ a b. refl; kept = λ a b. refl; fresh = λ a b. absurd (true≢false (sym b ∙ a)) }
+      record {
+        object = λ a b. refl;
+        kept = λ a b. refl;
+        fresh = λ a b. absurd (true≢false (sym b ∙ a));
+        others = λ a b i e. refl;
+      }
   does-bytes capInfo g = same s q _ refl refl
   does-bytes deriveCap g = same s q _ refl refl
   does-bytes deleteCap g = delete-bytes
@@ -167,7 +201,7 @@ module _ (s : State) (c : Call) (q : ℕ) where
   unfolding paid toHouse spend withCash withHouse FreeObject
   done-bytes h g =
       let B = does-bytes (paid s c) c (caller s c) (slotOf s c) h q (op (c .number)) (λ e. g .object e .2) in
-      record { object = B .object; kept = B .kept; fresh = B .fresh }
+      record { object = B .object; kept = B .kept; fresh = B .fresh; others = B .others }
 
   pub rule-bytes : (h : Choice) → (isDone (rule s c h) ≡ true → Open s c h)
       → Bytes s q (bytesLeft (isDone (rule s c h))) (rule s c h .after)

@@ -6,7 +6,7 @@ use mathlib.Core.Bool.{true, false, not, true≢false}
 use mathlib.Core.List.{List, [], _∷_, _++_}
 use native.Mathlib.Omega.{arith}
 use lib.Dec.{eqb, leb}
-use lib.ListN.{length, length-append, length-take, length-drop}
+use lib.ListN.{length, length-append}
 use borrow.Author.Tests.{eqb-true, leb-true, leb-false, ltb-false}
 use Rattle.rules.specs.Slots.{at}
 use Rattle.rules.specs.Store.{Window, Marks, Message, Object, State, noMarks, sumsIn, allCash, allMasters}
@@ -20,6 +20,7 @@ use Rattle.rules.specs.Changes.{earn, spend, toHouse, setSuspended, setW
 use Rattle.rules.specs.Calls.{liesIn, transferRefuses, written, writeDoes, processRefuses, suspendDoes}
 use Rattle.rules.specs.Calls.{resumeDoes, sendRefuses, message, sendDoes, boxEmpty, receiveDoes, waitDoes}
 use Rattle.rules.specs.Calls.{reviveRefuses, reviveDoes, refuses}
+use Rattle.rules.proofs.Parts.{written-is, replaced-length}
 use Rattle.rules.proofs.Tests.{all2, all3, not-is-false, pick-by}
 use Rattle.rules.proofs.Slots.{at-by, at-all, sum-at}
 use Rattle.rules.proofs.Forest.{master-in, master-unique}
@@ -125,8 +126,13 @@ short-append (x ∷ l) m h g = (h .0, short-append l m (h .1) g)
 
 -- ---- the calls
 
+-- the text of a write fits its range, and the range the object
+pub record WriteFits (s : State) (c : Call) (k : ℕ) : Type 0 where
+  pub end-is : c .range .start + length (c .text) ≡ c .range .end
+  pub inside : c .range .start + length (c .text) ≤ length (s .bytes (s .cap k .object))
+
 -- a capability's window ends within its object
-end-size : (s : State) (G : Formed s) (k : ℕ) → Lives (s .cap) k
+pub end-size : (s : State) (G : Formed s) (k : ℕ) → Lives (s .cap) k
     → s .cap k .window .end ≤ s .object (s .cap k .object) .size
 end-size s G k h =
     let m = G .master (s .cap k .object) (G .caps .live k h .owned) in
@@ -143,28 +149,32 @@ module _ (s : State) (G : Formed s) (c : Call) (me k : ℕ) where
       → Process (s .object) (s .cap k .object)
   aimed S e = record { live = G .caps .live k (S .lives) .owned; process = not-is-false (s .object o .process) e }
 
-  written-length : (b : List ℕ) → c .range .start ≤ c .range .end → c .range .end ≤ length b
-      → length (c .text) ≡ c .range .end - c .range .start → length (written s c me k b) ≡ length b
-  unfolding written
-  written-length b p q e = simp (length-append, length-take, length-drop) (omega arith)
-
-  pub keep-write : Ready s c me k write → Kept s (writeDoes s c me k .after)
-  unfolding writeDoes done withBytes argumentsFit transferFits ordered refuses transferRefuses _when_ liesIn presents
-      moneyIn allCash allMasters allBoxes
-  keep-write r =
+  pub write-fits : Ready s c me k write → WriteFits s c k
+  unfolding argumentsFit transferFits ordered refuses transferRefuses _when_ liesIn presents
+  write-fits r =
       let u : Window = c .range in
       let w : Window = s .cap k .window in
       let n : ℕ = u .end - u .start in
       let a = all3 (leb (u .start) (u .end)) (leb n 256) (eqb (length (c .text)) n) (r .fits) in
       let b = all2 (leb (w .start) (u .start)) (leb (u .end) (w .end)) (not-is-false (liesIn u w) (r .none .0)) in
-      let e = end-size s G k (r .shown refl .lives) in
-      let d : u .end ≤ w .end = leb-true _ _ (b .1) in
-      let f : u .end ≤ length (s .bytes o) = omega (arith, G .bytes o) in
+      let f : u .start ≤ u .end = leb-true (u .start) (u .end) (a .0) in
+      let g : length (c .text) ≡ n = eqb-true (length (c .text)) n (a .2) in
+      let d : u .end ≤ w .end = leb-true (u .end) (w .end) (b .1) in
+      record {
+        end-is = omega (arith, f, g);
+        inside = omega (arith, end-size s G k (r .shown refl .lives), f, g, d, G .bytes o);
+      }
+
+  pub keep-write : Ready s c me k write → Kept s (writeDoes s c me k .after)
+  unfolding writeDoes done withBytes moneyIn allCash allMasters allBoxes
+  keep-write r =
+      let f = write-fits r in
       let v : List ℕ = written s c me k (s .bytes o) in
       record {
         formed = formed-of (sound-bytes (sound-of G) (at (s .bytes) o v)
             (at-by (λ x y. length y ≡ s .object x .size) (s .bytes) o v
-            (written-length (s .bytes o) (leb-true _ _ (a .0)) f (eqb-true _ _ (a .2)) ∙ G .bytes o)
+            (ap length (sym (written-is s c me k (f .end-is) (s .bytes o)))
+            ∙ replaced-length (c .range .start) (c .text) (s .bytes o) (f .inside) ∙ G .bytes o)
             (λ j n. G .bytes j)))
             (G .master);
         total = refl;

@@ -20,6 +20,7 @@ pub mod Presenting
 pub mod Ready
 pub mod Outcomes
 -- the calls
+pub mod Parts
 pub mod Keeping
 pub mod Purse
 pub mod Locking
@@ -31,6 +32,7 @@ pub mod Answers
 pub mod Bytes
 pub mod Done
 pub mod Steps
+pub mod Undoing
 -- lists of calls
 pub mod Fresh
 pub mod Claims

@@ -10,7 +10,7 @@ use Rattle.rules.specs.Valid.{Objects, Lives, Formed}
 use Rattle.rules.specs.Call.{Capability}
 use Rattle.rules.specs.Password.{unlock, presented}
 use Rattle.rules.specs.Ledger.{Ledger, found}
-use Rattle.rules.proofs.Tests.{both-true, all2, all3, same-name, name-same, same-password, password-same}
+use Rattle.rules.proofs.Tests.{by-eq, both-true, all2, all3, same-name, name-same, same-password, password-same}
 use Rattle.rules.proofs.Tests.{lives, does-live}
 use Rattle.rules.proofs.Slots.{find-finds, find-some}
 use Rattle.rules.proofs.Lines.{linesOf}
@@ -44,6 +44,13 @@ not-named s n O z o e q =
     let w = O .live o e in
     find-some 64 (λ o. s .object o .live && sameName (s .object o .name) n) o (w .some) (w .low)
     (both-true (s .object o .live) (sameName (s .object o .name) n) e (name-same (s .object o .name) n q)) z
+
+-- the object of a name is the one that has it
+pub named-is : (s : State) (n : Name) → Objects (s .object) → (o : ℕ) → s .object o .live ≡ true → s .object o .name ≡ n
+    → objectNamed s n ≡ o
+named-is s n O o l e = by-eq (objectNamed s n) 0
+    (λ z. absurd (not-named s n O z o l e))
+    (λ nz. O .names (objectNamed s n) o (found-live s n nz) l (named s n nz ∙ sym e))
 
 -- ---- the capability presented
 

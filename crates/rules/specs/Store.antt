@@ -1,6 +1,6 @@
 -- 01, "The store": its records by slot, the climb by parents, what lives, the money total, and the fresh store.
 -- A free slot holds the record of zeros, whatever a freed record holds in the slices.
-use Prim.Native.Nat.{ℕ, _+_, _-_, _/_}
+use Prim.Native.Nat.{ℕ, _+_, _-_, _/_, _≤_, _<_}
 use mathlib.Core.Bool.{Bool, true, false, not, _&&_}
 use mathlib.Core.List.{List, [], _∷_}
 use lib.Dec.{eqb}
@@ -29,6 +29,14 @@ samePassword a b = eqb (a .p1) (b .p1) && eqb (a .p2) (b .p2)
 pub record Window : Type 0 where
   pub start : ℕ
   pub end : ℕ
+
+-- it has byte p
+abbrev pub Has : Window → ℕ → Type 0
+Has v p = (v .start ≤ p) × (p < v .end)
+
+-- two have no byte in common
+unfoldable pub Apart : Window → Window → Type 0
+Apart v w = (p : ℕ) → Has v p → Has w p → ⊥
 
 -- a lockword: two 32-bit words
 pub record Lockword : Type 0 where
