@@ -3,11 +3,13 @@
 //!
 //! `numbers` has the papers' numbers by name; `call` and `kernel` are the calls and the store;
 //! `script` runs 01's scripts (`hall-reference`); `ledger` and `claims` check demand 3 beside a
-//! run. `drive` is 02's loom drive above the store, in exact rational arithmetic.
+//! run. Above the store, `drive` is 02's loom drive, in exact rational arithmetic, and `hooks` has
+//! its reads and writes by hook.
 
 pub mod call;
 pub mod claims;
 pub mod drive;
+pub mod hooks;
 pub mod kernel;
 pub mod ledger;
 pub mod numbers;

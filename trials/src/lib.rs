@@ -2,8 +2,8 @@
 //!
 //! `generate`, with `profiles` and `random`, makes random calls and scripts (`make-script`);
 //! `conditions`, `scenes` and `coverage` count what they meet (`coverage`). `picks` makes picks of
-//! the loom drive; `met` counts what they meet. `edges` is 01's edges as scripts; `examples` prints
-//! answered scripts as definitions (`script-table`).
+//! the loom drive and `hooks` reads and writes by hook; `met` counts what those meet. `edges` is
+//! 01's edges as scripts; `examples` prints answered scripts as definitions (`script-table`).
 //!
 //! `raw` is a store in slices (`layout` has the offsets, `encode` lays a store out), `oracle` and
 //! `plain` check that slices are well formed, `damage` and `crafted` spoil them, and `samples`
@@ -17,6 +17,7 @@ pub mod edges;
 pub mod encode;
 pub mod examples;
 pub mod generate;
+pub mod hooks;
 pub mod layout;
 pub mod met;
 pub mod oracle;

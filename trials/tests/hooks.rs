@@ -1,0 +1,79 @@
+//! Random reads and writes by hook on the reference, between the calls of random runs: what each
+//! gives and leaves by a second writing, and every scene met.
+
+use reference::call::{call_kind, Answer};
+use reference::claims;
+use reference::hooks::{Hooked, Transfer};
+use reference::kernel::Store;
+use reference::numbers::*;
+use trials::conditions::holding;
+use trials::generate::Generator;
+use trials::hooks::MetByHook;
+use trials::profiles::PROFILES;
+
+/// Each tile as a number of 64 bits, lowest byte first: bit 8i + j goes to 8j + i.
+fn turned(data: &[u8]) -> Vec<u8> {
+    let tiles = data.chunks_exact(8);
+    let last = tiles.remainder();
+    let turn = |tile: &[u8]| {
+        let tile = u64::from_le_bytes(tile.try_into().expect("a tile"));
+        let set = (0..64).filter(|at| tile >> at & 1 == 1);
+        set.map(|at| 1 << (at % 8 * 8 + at / 8)).sum::<u64>().to_le_bytes()
+    };
+    tiles.flat_map(turn).chain(last.iter().copied()).collect()
+}
+
+/// The answer, and the store after it.
+fn expected(before: &Store, hooked: &Hooked) -> (Answer, Store) {
+    let (call, mut store) = (hooked.unturned(), before.clone());
+    let code = holding(before, &call).first().map_or(DONE, |condition| condition.refusal);
+    let mut answer = Answer { code, ..Answer::default() };
+    let fee = call_kind(call.operation.number()).map_or(0, |kind| kind.fee);
+    if let Some(caller) = store.objects.get_mut(&hooked.caller) {
+        match code {
+            OUT_OF_RANGE | NOT_RUNNING => {}
+            CANNOT_PAY => caller.terminated = true,
+            _ => {
+                caller.cash -= fee;
+                store.house += fee;
+            }
+        }
+    }
+    if code == DONE {
+        let object = store.objects.get_mut(&hooked.key.name).expect("an object");
+        let range = &mut object.bytes[hooked.start as usize..hooked.end as usize];
+        match &hooked.transfer {
+            Transfer::Write { data } => range.copy_from_slice(&turned(data)),
+            Transfer::Read { .. } => answer.bytes = turned(range),
+        }
+    }
+    (answer, store)
+}
+
+/// A run of each profile with a read or a write by hook after each call.
+fn runs(seed: u64, met: &mut MetByHook) {
+    for profile in PROFILES {
+        let mut generator = Generator::new(profile, seed);
+        let [supply, p1, p2] = generator.first();
+        let mut store = Store::fresh(supply, p1, p2);
+        for _ in 0..profile.calls {
+            store.run(&generator.next_call(&store));
+            let hooked = generator.next_hooked(&store);
+            let (answer, after) = expected(&store, &hooked);
+            assert_eq!(hooked.run(&mut store), answer, "{hooked:?}");
+            assert!(store == after, "changed otherwise: {hooked:?}");
+            assert_eq!(claims::well_formed(&store), Ok(()), "{hooked:?}");
+            met.note(&hooked, answer.code);
+        }
+    }
+}
+
+#[test]
+fn random_reads_and_writes() {
+    let mut met = MetByHook::default();
+    (1..=4).for_each(|seed| runs(seed, &mut met));
+    for (scene, code, count) in met.counts() {
+        println!("{code:>2} {scene:40}{count:>8}");
+        assert!(count > 10, "not met: {scene}");
+    }
+}
