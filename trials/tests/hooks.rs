@@ -77,3 +77,27 @@ fn random_reads_and_writes() {
         assert!(count > 10, "not met: {scene}");
     }
 }
+
+/// The table of examples that the verified definition of turning is proved to hold.
+const EDGES: &str = include_str!("../../crates/product_hooks/specs/Edges.antt");
+
+/// The bytes of a list up to its end.
+fn bytes(list: &str) -> Vec<u8> {
+    list.split(|c: char| !c.is_ascii_digit()).filter_map(|word| word.parse().ok()).collect()
+}
+
+/// The reference turns each example as the definition does.
+#[test]
+fn edges() {
+    let (_, table) = EDGES.split_once("\nedges =\n").expect("the table");
+    let (table, _) = table.split_once("\n\n").expect("its end");
+    let rows = table.lines().filter(|line| !line.trim_start().starts_with("--"));
+    let rows = rows.collect::<Vec<_>>().join(" ");
+    let edges: Vec<&str> = rows.split("edge ").skip(1).collect();
+    assert_eq!(edges.len(), 7);
+    for edge in edges {
+        let mut lists = edge.split("[]").map(bytes);
+        let [pattern, expected] = [(); 2].map(|()| lists.next().expect("two lists"));
+        assert_eq!(reference::hooks::turned(&pattern), expected);
+    }
+}

@@ -6,12 +6,9 @@ use mathlib.Core.Bool.{true}
 use mathlib.Core.List.{List, [], _∷_, _++_}
 use native.Mathlib.Omega.{arith}
 use native.Mathlib.Decide.{ℕ-discrete}
-use lib.Dec.{eqb}
 use lib.ListN.{length}
 use Rattle.rules.specs.Store.{State, Password}
 use Rattle.rules.specs.Rights.{deleteCap, op}
-use Rattle.rules.specs.Call.{Outcome}
-use Rattle.rules.specs.Rule as Rule
 use Rattle.rules.specs.Ledger.{Ledger, book, opening}
 use Rattle.rules.specs.Demand as Rules
 use Rattle.rules.specs.Demand.{FreshWords, Allowed, Now, Step, Legal, Claims, Ended, start, doneAt, next, run}
@@ -19,21 +16,14 @@ use Rattle.rules.specs.Theorems as Theorems
 use Rattle.rules.specs.Theorems.{Awake}
 use Rattle.rules.proofs.Theorems.{demand-3, mail-wakes}
 use Rattle.layout.specs.Layout as Layout
-use Rattle.layout.specs.View.{view}
-use Rattle.layout.specs.WellFormed.{Sized, WellFormed}
+use Rattle.layout.specs.WellFormed.{Sized}
 use Rattle.kernel_fresh.specs.Fresh.{Fresh}
 use Rattle.kernel_fresh.specs.Slices.{freshBytes, freshLinks, freshWords}
-use Rattle.call_steps.specs.Request.{answerOf, callOf}
-use Rattle.kernel_step.specs.Steps.{Steps, front}
-use Rattle.theorem_history.specs.History.{Store, lent, Event, callAt, Happens, Runs, lastStore, isDone, booked, after}
+use Rattle.call_steps.specs.Request.{callOf}
+use Rattle.kernel_step.specs.Steps.{front}
+use Rattle.theorem_history.specs.History.{Store, Event, callAt, Happens, Runs, lastStore, isDone, booked, after}
 use Rattle.theorem_history.specs.History.{Demand3, MailWakes}
-
--- what the store means
-abbrev means : Store → State
-means s = view (s .bytes) (s .links) (s .words)
-
-abbrev Formed : Store → Type 0
-Formed s = WellFormed (s .bytes) (s .links) (s .words)
+use Rattle.theorem_history.proofs.Events.{means, Formed, stepped, formed-next, allowed, outcome, done-is}
 
 abbrev now : State → Ledger → Now
 now s l = record { store = s; ledger = l }
@@ -41,28 +31,14 @@ now s l = record { store = s; ledger = l }
 -- ---- one call
 
 module _ (s : Store) (e : Event) (W : Formed s) (h : Happens s e) where
-  abbrev stepped : Steps (callAt e) (e .reply) (lent s (e .buffer) (e .scratch))
-      (lent (e .store) (e .buffer-after) (e .scratch-after))
-  stepped = h .steps W .rules
-
   abbrev stepOf : Step
-  stepOf = record { call = callAt e; choice = stepped .choice }
-
-  formed-next : Formed (e .store)
-  formed-next = stepped .formed
-
-  allowed : Allowed (means s) (callAt e) (stepped .choice)
-  allowed = stepped .allowed
-
-  done-is : (l : Ledger) → doneAt (now (means s) l) stepOf ≡ isDone e
-  unfolding doneAt Rule.isDone answerOf
-  done-is l = ap (λ (o : Outcome). eqb (o .answer .code) 0) (stepped .rules)
+  stepOf = record { call = callAt e; choice = stepped s e W h .choice }
 
   next-is : (l : Ledger) → next (now (means s) l) stepOf ≡ now (means (e .store)) (book l (callAt e) (isDone e))
-  unfolding next
+  unfolding next doneAt
   next-is l = λ i. record {
-    store = stepped .rules i .after;
-    ledger = book l (callAt e) (done-is l i);
+    store = outcome s e W h i .after;
+    ledger = book l (callAt e) (done-is s e W h i);
   }
 
 -- ---- a list of them
@@ -186,8 +162,8 @@ module _ (supply : ℕ) (p : Password) (words : FreshWords supply p) (old s : St
         (allowed (lastStore s f) e (last-formed s formed f h) g)
 
     done-after : isDone e ≡ true → doneAt (run (start supply p) (steps f h)) last-step ≡ true
-    done-after d = ap (λ n. doneAt n last-step) (run-after f h)
-        ∙ done-is (lastStore s f) e (last-formed s formed f h) g (booked (opening p) f) ∙ d
+    unfolding doneAt
+    done-after d = ap (λ n. doneAt n last-step) (run-after f h) ∙ done-is (lastStore s f) e (last-formed s formed f h) g ∙ d
 
     ended-after : op (e .request .number) ≡ deleteCap → isDone e ≡ true
         → Ended (after p s f) (callAt e) (after p s (f ++ e ∷ []))

@@ -1,5 +1,5 @@
--- Demand 3 about stores: the slices, as the contracts of `fresh` and of `call` leave them, call after call. And that no
--- process with mail waits.
+-- Demand 3 about stores: the slices, as the contracts of `fresh`, of `call` and of the functions by hook leave them, call after
+-- call. And that no process with mail waits.
 use Prim.Native.Nat.{ℕ}
 use mathlib.Core.Path.{_≡_}
 use mathlib.Core.Bool.{Bool, true}
@@ -20,6 +20,8 @@ use Rattle.call_steps.specs.declared.request.Reply.{Reply}
 use Rattle.call_steps.specs.Request.{callOf}
 use Rattle.kernel_step.specs.Slices.{Slices, slices}
 use Rattle.kernel_call.specs.Calls.{Calls}
+use Rattle.product_hooks.specs.Turned.{turned}
+use Rattle.product_hooks.specs.Hooked.{Hooked}
 
 -- a store: three slices
 pub record Store : Type 0 where
@@ -31,9 +33,14 @@ pub record Store : Type 0 where
 abbrev pub lent : Store → List ℕ → List ℕ → Slices
 lent s buffer scratch = slices (s .bytes) (s .links) (s .words) buffer scratch
 
--- one call of a run: the request, the bytes that come with it, the buffer and the scratch that are lent; then the reply,
--- and the store, the buffer and the scratch that it leaves
+-- a call is made plainly, or by hook (02, CR 5: reads and writes are; what is said holds of any call)
+pub data Way : Type 0 where
+  plain byHook : Way
+
+-- one call of a run: how it is made, the request, the bytes that come with it, the buffer and the scratch that are lent; then
+-- the reply, and the store, the buffer and the scratch that it leaves
 pub record Event : Type 0 where
+  pub way : Way
   pub request : Request
   pub text : List ℕ
   pub buffer : List ℕ
@@ -43,13 +50,23 @@ pub record Event : Type 0 where
   pub buffer-after : List ℕ
   pub scratch-after : List ℕ
 
+-- the bytes that the call itself is given
+abbrev pub textBy : Way → List ℕ → List ℕ
+textBy plain text = text
+textBy byHook text = turned text
+
 -- the call that it makes, with nothing of the store
 abbrev pub callAt : Event → Call
-callAt e = callOf (e .request) (e .text) (length (e .buffer)) (length (e .scratch))
+callAt e = callOf (e .request) (textBy (e .way) (e .text)) (length (e .buffer)) (length (e .scratch))
 
--- it is as the contract of `call` says
+-- the contract of `call`, or that of the functions by hook
+abbrev pub Contract : Way → Request → List ℕ → Reply → Slices → Slices → Type 0
+Contract plain = Calls
+Contract byHook = Hooked
+
+-- it is as the contract says
 abbrev pub Happens : Store → Event → Type 0
-Happens s e = Calls (e .request) (e .text) (e .reply) (lent s (e .buffer) (e .scratch))
+Happens s e = Contract (e .way) (e .request) (e .text) (e .reply) (lent s (e .buffer) (e .scratch))
     (lent (e .store) (e .buffer-after) (e .scratch-after))
 
 -- a run: each call is made on the store that the one before it left

@@ -1,2 +1,3 @@
--- Demand 3, about stores.
+-- Demand 3 about stores, and that a read by hook undoes a write by hook.
 pub mod History
+pub mod Undo

@@ -26,7 +26,7 @@ use Rattle.kernel_step.specs.Ends.{scratchAfter, Ends}
 use Rattle.kernel_step.proofs.Promising.{stepped}
 use Rattle.kernel_call.proofs.Calling.{calls-step}
 use Rattle.theorem_history.specs.History as History
-use Rattle.theorem_history.specs.History.{lent, Event, callAt, Happens, Runs}
+use Rattle.theorem_history.specs.History.{lent, plain, Event, callAt, Happens, Runs}
 use Rattle.theorem_history.proofs.Following.{history}
 use Rattle.script_text.specs.Numeral.{lineOf}
 use Rattle.script_text.specs.Scan.{Means}
@@ -116,6 +116,7 @@ module _ {k : ℕ} {s s′ : Store} {ns out : List ℕ} (W : Formed s) (p : Play
 
   event : Event
   event = record {
+    way = plain;
     request = requestOf c;
     text = c .text;
     buffer = buffer;
@@ -181,7 +182,7 @@ called-good {k} {s} {s′} {ns} {out} {text} {nss} W p fits r =
       runs = (event-happens W p fits, r .runs);
       makes = subst (λ (x : List ℕ). MakesCalls k (asStore s) (ns ∷ nss) (e ∷ r .events) (x ++ text))
           (ap (λ (x : Answer). lineOf (k ∷ answerOf (op (nth ns 0)) x)) (event-answer W p fits) ∙ sym (p .text))
-          (call fits (event-call W p fits) (r .makes));
+          (call fits refl (event-call W p fits) (r .makes));
     }
 
 refused-text : {k : ℕ} {s s′ : Store} {ns out : List ℕ} → Played k s ns out s′ → lineFits (op (nth ns 0)) ns ≡ false

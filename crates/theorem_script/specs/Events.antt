@@ -15,14 +15,14 @@ use Rattle.kernel_fresh.specs.Fresh.{Fresh}
 use Rattle.script_text.specs.Numeral.{lineOf}
 use Rattle.script_answers.specs.Ends.{totalsLine}
 use Rattle.script_play.specs.Starts.{passwordIn}
-use Rattle.theorem_history.specs.History.{Store, Event, callAt, Runs, Holds}
+use Rattle.theorem_history.specs.History.{Store, plain, Event, callAt, Runs, Holds}
 
 -- a call's reply, with the bytes at the buffer's front, as the rules' answer
 abbrev pub answerIn : Event → Answer
 answerIn e = replyAnswer (e .reply) (take (e .reply .count) (e .buffer-after))
 
 -- lines of these numbers, the first of them line k, on the store s: the calls that they make, one after another, and what is
--- written, the totals last. A bad line makes no call.
+-- written, the totals last. A bad line makes no call; no line makes one by hook.
 pub data MakesCalls : ℕ → Store → List (List ℕ) → List Event → List ℕ → Type 0 where
   over : {k : ℕ} {s : Store} → MakesCalls k s [] [] (totalsLine (view (s .bytes) (s .links) (s .words)))
   bad : {k : ℕ} {s : Store} {ns text : List ℕ} {nss : List (List ℕ)} {es : List Event}
@@ -31,6 +31,7 @@ pub data MakesCalls : ℕ → Store → List (List ℕ) → List Event → List 
       → MakesCalls k s (ns ∷ nss) es (lineOf (k ∷ Code.outOfRange ∷ []) ++ text)
   call : {k : ℕ} {s : Store} {ns text : List ℕ} {nss : List (List ℕ)} {e : Event} {es : List Event}
       → lineFits (op (nth ns 0)) ns ≡ true
+      → e .way ≡ plain
       → callAt e ≡ callOf (op (nth ns 0)) ns
       → MakesCalls (suc k) (e .store) nss es text
       → MakesCalls k s (ns ∷ nss) (e ∷ es) (lineOf (k ∷ answerOf (op (nth ns 0)) (answerIn e)) ++ text)
