@@ -2,6 +2,7 @@
 use Prim.Native.Nat.{ℕ}
 use mathlib.Core.Path.{_≡_, refl, subst}
 use mathlib.Core.List.{List}
+use Rattle.values.specs.declared.window.Window.{Window}
 use Rattle.call_steps.specs.declared.request.Name.{Name}
 use Rattle.call_steps.specs.declared.request.Capability.{Capability}
 use Rattle.call_steps.specs.declared.request.Request.{Request}
@@ -14,10 +15,12 @@ use Rattle.product_drive.specs.declared.repeat.Repeat.{Repeat}
 use Rattle.product_drive.specs.declared.repeat.Place.{Place}
 use Rattle.product_drive.specs.declared.picked.Picked.{Picked}
 use Rattle.product_drive.specs.Picks.{Picks}
-use Rattle.exports.specs.Numbers.{nameAt, capabilityAt, Fitting}
+use Rattle.product_hooks.specs.Hooked.{Hooked}
+use Rattle.exports.specs.Numbers.{nameAt, capabilityAt, windowAt, Fitting}
 use Rattle.exports.specs.Store as Store
 use Rattle.exports.specs.Question as Question
 use Rattle.exports.specs.Drive as Drive
+use Rattle.exports.specs.Hooks as Hooks
 
 -- ---- a call
 
@@ -76,6 +79,28 @@ module _ {request reply reply′ : List ℕ} {was is : Slices} where
     made = λ _. record {
       picked = r;
       picks = rw en at (rw ex at (rw ep at (rw ed at picks)));
+      numbers = e;
+      code-is = refl;
+    };
+    kept = λ bad. absurd (bad f);
+  }
+
+-- ---- a call by hook
+
+module _ (request : Name → Capability → Window → Request) {numbers text reply reply′ : List ℕ} {was is : Slices} where
+  pub hook-kept : {code : ℕ} → (Fitting Hooks.requestLength Store.replyLength numbers reply → ⊥)
+      → Store.Unanswered code reply reply′ was is → Hooks.Exported request numbers text code reply reply′ was is
+  hook-kept bad k = record { made = λ f. absurd (bad f); kept = λ _. k }
+
+  pub hook-made : {n : Name} {x : Capability} {v : Window} {r : Reply}
+      → Fitting Hooks.requestLength Store.replyLength numbers reply
+      → n ≡ nameAt numbers 0 → x ≡ capabilityAt numbers 2 → v ≡ windowAt numbers 6
+      → Hooked (request n x v) text r was is → reply′ ≡ Store.numbersOf r
+      → Hooks.Exported request numbers text (r .code) reply reply′ was is
+  hook-made {r = r} f en ex ev hooked e = record {
+    made = λ _. record {
+      reply = r;
+      hooked = rw en at (rw ex at (rw ev at hooked));
       numbers = e;
       code-is = refl;
     };

@@ -3,3 +3,4 @@ pub mod Numbers
 pub mod Store
 pub mod Question
 pub mod Drive
+pub mod Hooks

@@ -5,6 +5,7 @@ use mathlib.Core.List.{List, [], _∷_}
 use lib.ListN.{length, getD}
 use Rattle.rules.specs.Code as Code
 use Rattle.layout.specs.WellFormed.{WellFormed}
+use Rattle.values.specs.declared.window.Window.{Window}
 use Rattle.call_steps.specs.declared.request.Name.{Name}
 use Rattle.call_steps.specs.declared.request.Capability.{Capability}
 
@@ -15,6 +16,9 @@ nameAt l i = record { volume = getD l i 0; serial = getD l (i + 1) 0 }
 
 unfoldable pub capabilityAt : List ℕ → ℕ → Capability
 capabilityAt l i = record { name = nameAt l i; password = getD l (i + 2) 0 ∷ getD l (i + 3) 0 ∷ [] }
+
+unfoldable pub windowAt : List ℕ → ℕ → Window
+windowAt l i = record { start = getD l i 0; end = getD l (i + 1) 0 }
 
 -- ---- lengths
 

@@ -7,7 +7,7 @@ use Rattle.call_steps.specs.declared.request.Request.{Request}
 use Rattle.call_steps.specs.declared.request.Reply.{Reply}
 use Rattle.kernel_step.specs.Slices.{Slices}
 use Rattle.kernel_call.specs.Calls.{Calls}
-use Rattle.exports.specs.Numbers.{nameAt, capabilityAt, Fitting, Unfit}
+use Rattle.exports.specs.Numbers.{nameAt, capabilityAt, windowAt, Fitting, Unfit}
 
 -- how many numbers a request and a reply have
 abbrev pub requestLength : ℕ
@@ -28,7 +28,7 @@ requestOf l = record {
   flag = getD l 10 0;
   rights = getD l 11 0;
   drawn = getD l 12 0 ∷ getD l 13 0 ∷ [];
-  range = record { start = getD l 14 0; end = getD l 15 0 };
+  range = windowAt l 14;
   sum = getD l 16 0;
   lock = getD l 17 0 ∷ getD l 18 0 ∷ [];
   limit = getD l 19 0;

@@ -3,11 +3,12 @@ ghost use mathlib.Core.Path.{_≡_};
 ghost use Prim.Native.Nat.{_+_, _≤_};
 ghost use lib.ListN.{length};
 ghost use Rattle.layout.specs.Decides.{Decides};
-ghost use Rattle.exports.specs.Numbers.{nameAt, capabilityAt, Lengths, Unfit};
+ghost use Rattle.exports.specs.Numbers.{nameAt, capabilityAt, windowAt, Lengths, Unfit};
 use call_steps::request::Capability;
 use call_steps::request::Name;
 use values::code::ILL_FORMED;
 use values::code::OUT_OF_RANGE;
+use values::window::Window;
 
 // The name whose volume is number i.
 pub(crate) fn name_at(numbers: &[u32], i: usize) -> Name
@@ -28,6 +29,17 @@ pub(crate) fn capability_at(numbers: &[u32], i: usize) -> Capability
     Capability {
         name: name_at(numbers, i),
         password: [numbers[i + 2], numbers[i + 3]],
+    }
+}
+
+// The window, or range, whose start is number i.
+pub(crate) fn window_at(numbers: &[u32], i: usize) -> Window
+    requires { ⌜ i + 2 ≤ length (now numbers) ⌝ }
+    ensures { λ r. ⌜ r ≡ windowAt (now (numbers .entry)) i ⌝ }
+{
+    Window {
+        start: numbers[i],
+        end: numbers[i + 1],
     }
 }
 

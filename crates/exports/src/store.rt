@@ -12,15 +12,15 @@ use crate::numbers::capability_at;
 use crate::numbers::fits;
 use crate::numbers::name_at;
 use crate::numbers::unfit;
+use crate::numbers::window_at;
 use call_steps::request::Reply;
 use call_steps::request::Request;
 use values::code::OUT_OF_RANGE;
-use values::window::Window;
 
 // How many numbers a request and a reply have.
 const REQUEST: usize = 20;
 
-const REPLY: usize = 9;
+pub(crate) const REPLY: usize = 9;
 
 // Whether the store is well formed.
 #[no_mangle]
@@ -60,10 +60,7 @@ fn request_of(numbers: &[u32]) -> Request
         flag: numbers[10],
         rights: numbers[11],
         drawn: [numbers[12], numbers[13]],
-        range: Window {
-            start: numbers[14],
-            end: numbers[15],
-        },
+        range: window_at(numbers, 14),
         sum: numbers[16],
         lock: [numbers[17], numbers[18]],
         limit: numbers[19],
@@ -71,7 +68,7 @@ fn request_of(numbers: &[u32]) -> Request
 }
 
 // The 9 numbers of a reply.
-fn put_reply(r: Reply, numbers: &mut [u32])
+pub(crate) fn put_reply(r: Reply, numbers: &mut [u32])
     requires { ⌜ length (now numbers) ≡ replyLength ⌝ }
     ensures { λ _. ⌜ now (numbers .exit) ≡ numbersOf r ⌝ }
 {

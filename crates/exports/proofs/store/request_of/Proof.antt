@@ -31,29 +31,27 @@ shared-slice-read-t14 c = search needs
 shared-slice-read-t16 : tie.Need-shared-slice-read-t16
 shared-slice-read-t16 c = search needs
 
-shared-slice-read-t19 : tie.Need-shared-slice-read-t19
-shared-slice-read-t19 c = search needs
+window-at-requires : tie.Need-window-at-requires
+window-at-requires c κs = search needs
 
-shared-slice-read-t21 : tie.Need-shared-slice-read-t21
-shared-slice-read-t21 c = search needs
+shared-slice-read-t20 : tie.Need-shared-slice-read-t20
+shared-slice-read-t20 c = search needs
+
+shared-slice-read-t22 : tie.Need-shared-slice-read-t22
+shared-slice-read-t22 c = search needs
 
 shared-slice-read-t24 : tie.Need-shared-slice-read-t24
 shared-slice-read-t24 c = search needs
 
-shared-slice-read-t26 : tie.Need-shared-slice-read-t26
-shared-slice-read-t26 c = search needs
-
-shared-slice-read-t28 : tie.Need-shared-slice-read-t28
-shared-slice-read-t28 c = search needs
-
-shared-slice-read-t31 : tie.Need-shared-slice-read-t31
-shared-slice-read-t31 c = search needs
+shared-slice-read-t27 : tie.Need-shared-slice-read-t27
+shared-slice-read-t27 c = search needs
 
 returns : tie.Need-returns
 unfolding requestOf
 returns c =
-    let n = c .before .before .before .before .before .before .before .before .before .before .before in
-    rw (n .before .before .name-at .ensures, n .before .capability-at .ensures, n .name-at2 .ensures)
+    let w = c .before .before .before .before in
+    let n = w .before .before .before .before .before .before in
+    rw (n .before .before .name-at .ensures, n .before .capability-at .ensures, n .name-at2 .ensures, w .window-at .ensures)
 
 pub request-of-spec : {M : Type 1} → statement M
 request-of-spec =
@@ -68,10 +66,9 @@ request-of-spec =
     shared-slice-read-t12
     shared-slice-read-t14
     shared-slice-read-t16
-    shared-slice-read-t19
-    shared-slice-read-t21
+    window-at-requires
+    shared-slice-read-t20
+    shared-slice-read-t22
     shared-slice-read-t24
-    shared-slice-read-t26
-    shared-slice-read-t28
-    shared-slice-read-t31
+    shared-slice-read-t27
     returns)

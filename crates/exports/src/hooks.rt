@@ -1,0 +1,79 @@
+// Patterns by hook.
+ghost use mathlib.Core.Path.{_≡_};
+ghost use mathlib.Core.List.{[]};
+ghost use Rattle.call_steps.specs.Request.{readRequest, writeRequest};
+ghost use Rattle.kernel_step.specs.Slices.{slices};
+ghost use Rattle.product_hooks.specs.Turned.{turned};
+ghost use Rattle.exports.specs.Hooks.{Exported};
+use crate::numbers::capability_at;
+use crate::numbers::fits;
+use crate::numbers::name_at;
+use crate::numbers::unfit;
+use crate::numbers::window_at;
+use crate::store::REPLY;
+use crate::store::put_reply;
+use product_hooks::pattern::turn;
+use product_hooks::read_by_hook;
+use product_hooks::write_by_hook;
+
+// How many numbers a request has; a reply has those of a call's.
+const REQUEST: usize = 8;
+
+// Writes by hook: 8 numbers of a request, 9 of the reply. Where either slice has another length, nothing is written, and
+// it is 1 on a store that is not well formed, else 2.
+#[no_mangle]
+pub extern "C" fn hook_write(
+    bytes: &mut [u8],
+    links: &mut [u16],
+    words: &mut [u32],
+    text: &[u8],
+    request: &[u32],
+    reply: &mut [u32],
+) -> u32
+    ensures { λ r. ⌜ Exported writeRequest (now (request .entry)) (now (text .entry)) r (now (reply .entry)) (now (reply .exit))
+        (slices (now (bytes .entry)) (now (links .entry)) (now (words .entry)) [] [])
+        (slices (now (bytes .exit)) (now (links .exit)) (now (words .exit)) [] []) ⌝ }
+{
+    if fits(request.len(), REQUEST, reply.len(), REPLY) {
+        let caller = name_at(request, 0);
+        let presented = capability_at(request, 2);
+        let to = window_at(request, 6);
+        let answer = write_by_hook(bytes, links, words, text, caller, presented, to);
+        put_reply(answer, reply);
+        return answer.code;
+    }
+    unfit(bytes, links, words)
+}
+
+// Reads by hook, in the same way.
+#[no_mangle]
+pub extern "C" fn hook_read(
+    bytes: &mut [u8],
+    links: &mut [u16],
+    words: &mut [u32],
+    buffer: &mut [u8],
+    request: &[u32],
+    reply: &mut [u32],
+) -> u32
+    ensures { λ r. ⌜ Exported readRequest (now (request .entry)) [] r (now (reply .entry)) (now (reply .exit))
+        (slices (now (bytes .entry)) (now (links .entry)) (now (words .entry)) (now (buffer .entry)) [])
+        (slices (now (bytes .exit)) (now (links .exit)) (now (words .exit)) (now (buffer .exit)) []) ⌝ }
+{
+    if fits(request.len(), REQUEST, reply.len(), REPLY) {
+        let caller = name_at(request, 0);
+        let presented = capability_at(request, 2);
+        let from = window_at(request, 6);
+        let r = read_by_hook(bytes, links, words, buffer, caller, presented, from);
+        put_reply(r, reply);
+        return r.code;
+    }
+    unfit(bytes, links, words)
+}
+
+// Turns a pattern where it stands, without a store.
+#[no_mangle]
+pub extern "C" fn hook_turn(pattern: &mut [u8])
+    ensures { λ _. ⌜ now (pattern .exit) ≡ turned (now (pattern .entry)) ⌝ }
+{
+    turn(pattern);
+}
