@@ -1,5 +1,5 @@
-//! The C functions of the verified kernel and of the loom drive as safe functions on slices. All
-//! unsafe code is here, but for `stack`.
+//! The C functions of the verified kernel, of the loom drive and of patterns by hook as safe
+//! functions on slices. All unsafe code is here, but for `stack`.
 
 use crate::request::{Request, REPLY};
 use trials::raw::RawStore;
@@ -38,6 +38,23 @@ extern "C" {
         reply: *mut u32,
         reply_length: usize,
     ) -> u32;
+
+    fn hook_write(
+        bytes: *mut u8,
+        bytes_length: usize,
+        links: *mut u16,
+        links_length: usize,
+        words: *mut u32,
+        words_length: usize,
+        text: *const u8,
+        text_length: usize,
+        request: *const u32,
+        request_length: usize,
+        reply: *mut u32,
+        reply_length: usize,
+    ) -> u32;
+
+    fn hook_turn(pattern: *mut u8, pattern_length: usize);
 }
 
 /// Declares entry points of the kernel: the store's slices, the text, the buffer, the scratch, the
@@ -69,9 +86,9 @@ macro_rules! entries {
 
 entries!(store_call, store_step_unchecked);
 
-/// Declares entry points of the loom drive: the store's slices, the buffer, a pick's numbers and
-/// those of the reply.
-macro_rules! pick_entries {
+/// Declares entry points of what makes a read: the store's slices, the buffer, the request's
+/// numbers and those of the reply.
+macro_rules! read_entries {
     ($($name:ident),*) => {
         extern "C" {
             $(fn $name(
@@ -92,7 +109,7 @@ macro_rules! pick_entries {
     };
 }
 
-pick_entries!(drive_pick, drive_pick_unchecked);
+read_entries!(drive_pick, drive_pick_unchecked, hook_read);
 
 /// The check of a store: whether it is well formed.
 pub fn check(raw: &RawStore) -> bool {
@@ -228,8 +245,8 @@ pub fn window(raw: &RawStore, request: &[u32], reply: &mut [u32]) -> u32 {
     }
 }
 
-/// The type of `drive_pick` and `drive_pick_unchecked`.
-type PickEntry = unsafe extern "C" fn(
+/// The type of `drive_pick`, `drive_pick_unchecked` and `hook_read`.
+type ReadEntry = unsafe extern "C" fn(
     *mut u8,
     usize,
     *mut u16,
@@ -244,8 +261,8 @@ type PickEntry = unsafe extern "C" fn(
     usize,
 ) -> u32;
 
-fn enter_pick(
-    entry: PickEntry,
+fn enter_read(
+    entry: ReadEntry,
     raw: &mut RawStore,
     buffer: &mut [u8],
     request: &[u32],
@@ -274,7 +291,46 @@ fn enter_pick(
 
 /// A pick on any store: its code; the reply is written into its slice.
 pub fn pick(raw: &mut RawStore, buffer: &mut [u8], request: &[u32], reply: &mut [u32]) -> u32 {
-    enter_pick(drive_pick, raw, buffer, request, reply)
+    enter_read(drive_pick, raw, buffer, request, reply)
+}
+
+/// A read by hook on any store: its code; the reply is written into its slice.
+pub fn read_by_hook(
+    raw: &mut RawStore,
+    buffer: &mut [u8],
+    request: &[u32],
+    reply: &mut [u32],
+) -> u32 {
+    enter_read(hook_read, raw, buffer, request, reply)
+}
+
+/// A write by hook on any store: its code; the reply is written into its slice.
+pub fn write_by_hook(raw: &mut RawStore, text: &[u8], request: &[u32], reply: &mut [u32]) -> u32 {
+    let RawStore { bytes, links, words } = raw;
+    // SAFETY: each pointer comes with its slice's length; the slices that are written are lent
+    // for writing, and no two overlap.
+    unsafe {
+        hook_write(
+            bytes.as_mut_ptr(),
+            bytes.len(),
+            links.as_mut_ptr(),
+            links.len(),
+            words.as_mut_ptr(),
+            words.len(),
+            text.as_ptr(),
+            text.len(),
+            request.as_ptr(),
+            request.len(),
+            reply.as_mut_ptr(),
+            reply.len(),
+        )
+    }
+}
+
+/// Turns the whole tiles of a pattern in place.
+pub fn turn(pattern: &mut [u8]) {
+    // SAFETY: the pointer comes with its slice's length, and the slice is lent for writing.
+    unsafe { hook_turn(pattern.as_mut_ptr(), pattern.len()) }
 }
 
 /// A store that the verified check has found well formed, and only `step`, `step_into` and `pick`
@@ -311,7 +367,7 @@ impl FormedStore {
 
     /// A pick on the store, which is not checked again: its code.
     pub fn pick(&mut self, buffer: &mut [u8], request: &[u32], reply: &mut [u32]) -> u32 {
-        enter_pick(drive_pick_unchecked, &mut self.0, buffer, request, reply)
+        enter_read(drive_pick_unchecked, &mut self.0, buffer, request, reply)
     }
 
     pub fn raw(&self) -> &RawStore {

@@ -1,12 +1,14 @@
-//! The verified code and the reference side by side: a call, a question or a pick is made on both,
-//! and all that it gives and leaves is compared.
+//! The verified code and the reference side by side: a call, a question, a pick, or a read or write
+//! by hook is made on both, and all that it gives and leaves is compared.
 
 use crate::kernel::{self, FormedStore};
 use crate::request::{
-    answer, pick_request, picked, window_request, Request, PICK_REPLY, WINDOW_REPLY,
+    answer, hook_request, pick_request, picked, window_request, Request, PICK_REPLY, REPLY,
+    WINDOW_REPLY,
 };
 use reference::call::{call_kind, Answer, Call, Key, Name};
 use reference::drive::{Pick, Picked};
+use reference::hooks::{Hooked, Transfer};
 use reference::kernel::Store;
 use reference::numbers::*;
 use std::collections::BTreeMap;
@@ -17,6 +19,7 @@ use trials::raw::{decode, RawStore};
 pub type Answers = BTreeMap<(u32, u32), u64>;
 
 /// A raw store and the store that it means.
+#[derive(Clone)]
 pub struct Pair {
     pub raw: RawStore,
     pub store: Store,
@@ -96,6 +99,32 @@ pub fn pick_by(
     assert!(buffer == buffer_after(&expected.bytes, &lent), "buffer: {pick:?}");
 }
 
+/// Makes a read or a write by hook by a request and a reply of any length: its code. The buffer is
+/// for a read alone.
+pub fn enter_hooked(
+    raw: &mut RawStore,
+    hooked: &Hooked,
+    buffer: &mut [u8],
+    request: &[u32],
+    reply: &mut [u32],
+) -> u32 {
+    match &hooked.transfer {
+        Transfer::Read { .. } => kernel::read_by_hook(raw, buffer, request, reply),
+        Transfer::Write { data } => kernel::write_by_hook(raw, data, request, reply),
+    }
+}
+
+/// Makes a read or a write by hook on the raw store alone: it gives what is expected, and leaves
+/// every byte of the buffer so.
+pub fn hooked_raw(raw: &mut RawStore, hooked: &Hooked, expected: &Answer, random: &mut Random) {
+    let lent = random.bytes(hooked.plain().buffer);
+    let (mut buffer, mut reply) = (lent.clone(), [MAX_WORD; REPLY]);
+    let code = enter_hooked(raw, hooked, &mut buffer, &hook_request(hooked), &mut reply);
+    assert_eq!(code, reply[0], "the code is returned, too");
+    assert_eq!(answer(reply, &buffer), *expected, "{hooked:?}");
+    assert!(buffer == buffer_after(&expected.bytes, &lent), "buffer: {hooked:?}");
+}
+
 impl Pair {
     /// Makes the call on both, and compares all that it leaves; the answer's code.
     pub fn call(&mut self, call: &Call, random: &mut Random, answers: &mut Answers) -> u32 {
@@ -147,6 +176,18 @@ impl Pair {
         assert!(changes || self.raw == before, "changed by a refusal: {pick:?}");
         assert!(moves_only_the_fee(expected.code, &before, &self.raw), "changed more: {pick:?}");
         assert!(decode(&self.raw).as_ref() == Some(&self.store), "meaning: {pick:?}");
+        expected
+    }
+
+    /// Makes the read or the write by hook on both, and compares all that it leaves: the slices to
+    /// those that the plain call leaves on a copy, where their meaning is compared.
+    pub fn hooked(&mut self, hooked: &Hooked, random: &mut Random) -> Answer {
+        let mut plain = self.clone();
+        let expected = hooked.run(&mut self.store);
+        hooked_raw(&mut self.raw, hooked, &expected, random);
+        plain.call(&hooked.plain(), random, &mut Answers::new());
+        assert!(self.store == plain.store, "otherwise than the plain call: {hooked:?}");
+        assert!(self.raw == plain.raw, "slices: {hooked:?}");
         expected
     }
 }

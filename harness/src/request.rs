@@ -1,9 +1,10 @@
 //! A call as the verified kernel takes it: 20 numbers and the bytes that come with it; and its
-//! reply, 9 numbers, as an answer. The question for a window and a pick of the loom drive have
-//! numbers alone.
+//! reply, 9 numbers, as an answer. The question for a window, a pick of the loom drive and a read or
+//! a write by hook have requests of their own.
 
 use reference::call::{Action, Answer, Call, Key, Name, Operation};
 use reference::drive::{Pick, Picked, Place, Repeat};
+use reference::hooks::Hooked;
 
 /// The numbers of a request, in the order of the kernel's `Request`.
 pub const REQUEST: usize = 20;
@@ -17,6 +18,9 @@ pub const WINDOW_REPLY: usize = 3;
 pub const PICK_REQUEST: usize = WINDOW_REQUEST + 5;
 /// The numbers of its reply: the code, the step, the place, and how many bytes were read.
 pub const PICK_REPLY: usize = 5;
+/// The numbers of a read or a write by hook: those of the question, and the range. Its reply is a
+/// call's.
+pub const HOOK_REQUEST: usize = WINDOW_REQUEST + 2;
 
 /// Everything that a call can bring; what a call does not use is what `filler` says.
 #[derive(Clone, Debug)]
@@ -125,6 +129,12 @@ pub fn pick_request(pick: &Pick) -> [u32; PICK_REQUEST] {
     presented.copy_from_slice(&window_request(pick.caller, pick.key));
     rest.copy_from_slice(&[picks, counts, row, next, steps]);
     numbers
+}
+
+/// The numbers of a read or a write by hook.
+pub fn hook_request(hooked: &Hooked) -> [u32; HOOK_REQUEST] {
+    let [volume, serial, of, number, p1, p2] = window_request(hooked.caller, hooked.key);
+    [volume, serial, of, number, p1, p2, hooked.start, hooked.end]
 }
 
 /// What a pick's reply gives, with its bytes from the buffer's front.

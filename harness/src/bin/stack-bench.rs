@@ -1,12 +1,16 @@
 //! How deep the verified functions go on the stack: the check on several shapes of tree, and each
-//! call on a chain of capabilities, 512 deep where the call needs no free one; a question and a pick
-//! on that chain.
+//! call on a chain of capabilities, 512 deep where the call needs no free one; a question, a pick,
+//! and a write and a read by hook on that chain.
 
 use harness::kernel::{self, FormedStore};
-use harness::request::{pick_request, window_request, Request, PICK_REPLY, WINDOW_REPLY};
+use harness::pair::enter_hooked;
+use harness::request::{
+    hook_request, pick_request, window_request, Request, PICK_REPLY, REPLY, WINDOW_REPLY,
+};
 use harness::stack::depth;
 use reference::call::{Action, Call, Key, Name, Operation};
 use reference::drive::{Pick, Place, Repeat};
+use reference::hooks::{Hooked, Transfer};
 use reference::kernel::{Capability, Message, Object, Store};
 use reference::numbers::*;
 use trials::encode::encode;
@@ -47,10 +51,13 @@ fn ends(store: &Store) -> (Key, Key) {
     (master.map(key).expect("a master"), lowest.map(key).expect("a capability"))
 }
 
+/// A range of 256 bytes.
+const RANGE: (u32, u32) = (MAX_SIZE - 300, MAX_SIZE - 44);
+
 /// Calls on a chain that need nothing free.
 fn on_chain(store: &Store) -> Vec<Operation> {
     let (master, lowest) = ends(store);
-    let (start, end) = (MAX_SIZE - 300, MAX_SIZE - 44);
+    let (start, end) = RANGE;
     let on_lowest = [
         Action::Read { start, end },
         Action::Write { start, end, data: vec![7; 256] },
@@ -117,6 +124,23 @@ fn pick_depths(store: &Store) -> [usize; 3] {
     [whole, step, question]
 }
 
+/// The depths of a write and of a read by hook at the lowest capability.
+fn hook_depths(store: &Store) -> [usize; 2] {
+    let (_, key) = ends(store);
+    let (start, end) = RANGE;
+    let mut raw = encode(store, &mut Random::new(4));
+    let (mut buffer, mut reply) = (vec![0; MIN_BUFFER], [0; REPLY]);
+    let transfers = [Transfer::Write { data: vec![7; 256] }, Transfer::Read { buffer: MIN_BUFFER }];
+    transfers.map(|transfer| {
+        let hooked = Hooked { caller: NAME, key, start, end, transfer };
+        let request = hook_request(&hooked);
+        depth(|| {
+            let code = enter_hooked(&mut raw, &hooked, &mut buffer, &request, &mut reply);
+            assert_eq!(code, DONE);
+        })
+    })
+}
+
 fn main() {
     let mut random = Random::new(2);
     println!("bytes of stack below the Rust function that makes the call, its own included");
@@ -149,4 +173,7 @@ fn main() {
     println!("\n{:40}{whole:>8}", "drive_pick");
     println!("{:40}{step:>8}", "drive_pick_unchecked");
     println!("{:40}{question:>8}", "store_window");
+    let [write, read] = hook_depths(&full);
+    println!("{:40}{write:>8}", "hook_write");
+    println!("{:40}{read:>8}", "hook_read");
 }
