@@ -23,7 +23,7 @@ fn wide(x: u8) -> u64
     x as u64
 }
 
-// The tile from place `at` on, its first byte lowest. By `|`, and not by `+`: so it is compiled to one load.
+// The tile from place `at` on, its first byte lowest. By `|`, and not by `+`: so the compiler takes two tiles at once.
 fn load(pattern: &[u8], at: usize) -> u64
     requires { ⌜ at + 8 ≤ length (now pattern) ⌝ }
     ensures { λ r. ⌜ Holds (now (pattern .entry)) at r ⌝ }
