@@ -6,6 +6,7 @@ use mathlib.Core.List.{List, [], _∷_}
 use native.Mathlib.Omega.{arith}
 use lib.ListN.{length, take, length-take}
 use Rattle.rules.specs.Code as Code
+use Rattle.rules.specs.Limit as Limit
 use Rattle.rules.specs.Store.{State}
 use Rattle.rules.specs.Rights.{Op, op}
 use Rattle.rules.specs.Call.{Call, Choice, code}
@@ -48,30 +49,30 @@ line-number o l = refl
 
 -- ---- a line that fits its call
 
+-- q is the request that it says
+abbrev Says : Request → List ℕ → Type 0
+Says q ns = callOf q (lineCall (op (nth ns 0)) ns .text) Limit.buffer Limit.scratch ≡ lineCall (op (nth ns 0)) ns
+
 -- its request is its call
-same-call : (q : Request) (ns text buffer scratch : List ℕ)
-    → callOf q (lineCall (op (nth ns 0)) ns .text) 256 512 ≡ lineCall (op (nth ns 0)) ns
-    → text ≡ lineCall (op (nth ns 0)) ns .text → length buffer ≡ 256 → length scratch ≡ 512
+same-call : (q : Request) (ns text buffer scratch : List ℕ) → Says q ns
+    → text ≡ lineCall (op (nth ns 0)) ns .text → length buffer ≡ Limit.buffer → length scratch ≡ Limit.scratch
     → callOf q text (length buffer) (length scratch) ≡ lineCall (op (nth ns 0)) ns
 same-call q ns text buffer scratch asked t b s = rw (t, b, s) asked
 
-same-number : (q : Request) (ns : List ℕ)
-    → callOf q (lineCall (op (nth ns 0)) ns .text) 256 512 ≡ lineCall (op (nth ns 0)) ns
-    → q .number ≡ nth ns 0
+same-number : (q : Request) (ns : List ℕ) → Says q ns → q .number ≡ nth ns 0
 unfolding callOf
 same-number q ns asked = ap (λ (c : Call). c .number) asked ∙ line-number (op (nth ns 0)) ns
 
 -- the bytes that a reply counts are within the buffer
 pub counted : {q : Request} {text : List ℕ} {r : Reply} {was is : Slices} → Stepped q text r was is
-    → length (is .buffer) ≡ 256 → BytesCounted (is .buffer) (r .count)
+    → length (is .buffer) ≡ Limit.buffer → BytesCounted (is .buffer) (r .count)
 counted {r = r} {is = is} st size =
     let e : length (take (r .count) (is .buffer)) ≡ r .count = st .rules .count in
     record { low = omega (arith, length-take (r .count) (is .buffer)); high = omega (arith, length-take (r .count) (is .buffer)) }
 
 pub good-played : (q : Request) (r : Reply) (ns text b l w buffer scratch b′ l′ w′ buffer′ scratch′ out out′ : List ℕ) (number at n : ℕ)
-    → lineFits (op (nth ns 0)) ns ≡ true
-    → callOf q (lineCall (op (nth ns 0)) ns .text) 256 512 ≡ lineCall (op (nth ns 0)) ns
-    → text ≡ lineCall (op (nth ns 0)) ns .text → length buffer ≡ 256 → length scratch ≡ 512
+    → lineFits (op (nth ns 0)) ns ≡ true → Says q ns
+    → text ≡ lineCall (op (nth ns 0)) ns .text → length buffer ≡ Limit.buffer → length scratch ≡ Limit.scratch
     → Stepped q text r (slices b l w buffer scratch) (slices b′ l′ w′ buffer′ scratch′)
     → Put ANSWER out at (lineOf (number ∷ answerOf (op (q .number)) (replyAnswer r (take (r .count) buffer′)))) out′ n
     → Played ns number b l w b′ l′ w′ out at out′ n
