@@ -92,8 +92,8 @@ pub const MAX_RIGHTS: u32 = 8_191;
 pub const MAX_TRANSFER: u32 = 256;
 /// "answer buffer of at least 256 bytes"
 pub const MIN_BUFFER: usize = 256;
-/// "scratch of at least 512 16-bit numbers"
-pub const MIN_SCRATCH: usize = 512;
+/// 02, CR 6: "a scratch of 16 16-bit numbers, where 512 were needed"
+pub const MIN_SCRATCH: usize = 16;
 /// "a lock's first word below 2,147,483,648"; "If the presented p1 is 2,147,483,648 or more"
 pub const TOP: u32 = 2_147_483_648;
 /// The largest 32-bit number: "the money total is at most 4,294,967,295"

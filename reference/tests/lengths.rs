@@ -1,4 +1,4 @@
-//! Lengths of the answer buffer and of the scratch on both sides of what 01 asks for.
+//! Lengths of the answer buffer and of the scratch on both sides of what the papers ask for.
 
 use reference::kernel::Store;
 use reference::numbers::*;
@@ -40,6 +40,19 @@ fn lengths() {
         }
         for scratch in [0, MIN_SCRATCH - 1] {
             assert_eq!(code(line, MIN_BUFFER, scratch), short(needs_scratch), "{line}");
+        }
+    }
+}
+
+/// 02, CR 6: "Shorter than 16 is refused by 2."
+#[test]
+fn sixteen_numbers_of_scratch() {
+    for line in ["6 0 1 0 1 5 9", "7 0 1 0 1 5 9 1 1"] {
+        for scratch in 0..16 {
+            assert_eq!(code(line, MIN_BUFFER, scratch), OUT_OF_RANGE, "{line}: {scratch}");
+        }
+        for scratch in [16, 17, 511, 512, 5_000] {
+            assert_eq!(code(line, MIN_BUFFER, scratch), DONE, "{line}: {scratch}");
         }
     }
 }

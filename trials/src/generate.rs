@@ -113,12 +113,14 @@ impl Generator {
         number.unwrap_or(u32::MAX)
     }
 
-    /// The length of an answer buffer or a scratch of which so many are needed.
+    /// The length of an answer buffer or a scratch of which so many are needed; now and then it is
+    /// far longer.
     pub(crate) fn length(&mut self, needed: usize) -> usize {
         if self.fault() {
             needed - 1 - self.random.below(2) as usize
         } else {
-            needed + self.random.below(2) as usize
+            let more = if self.random.chance(100) { 5_000 } else { 1 };
+            needed + self.random.between(0, more) as usize
         }
     }
 

@@ -1,10 +1,12 @@
 //! Scenes that random runs must reach beside the refusals: locked callers, processes that act
-//! on themselves, names used again, limits on each side of a moneyword, and waits with mail and
-//! without.
+//! on themselves, names used again, limits on each side of a moneyword, the least scratch and longer
+//! ones, and waits with mail and without.
 
 use reference::call::{call_kind, Action, Call, Operation};
 use reference::claims::CheckedRun;
-use reference::numbers::{DONE, MAX_MESSAGES, MAX_WORD, NOT_FOUND, NOT_REVIVABLE, TOP};
+use reference::numbers::{
+    DONE, MAX_MESSAGES, MAX_WORD, MIN_SCRATCH, NOT_FOUND, NOT_REVIVABLE, TOP,
+};
 use std::cmp::Ordering;
 
 /// The scenes that a call, answered with this code, makes on the run before it.
@@ -28,6 +30,9 @@ pub fn scenes(before: &CheckedRun, call: &Call, code: u32) -> Vec<String> {
                 let place = before.store.find(call.caller, *key);
                 let moneyword = place.map_or(0, |place| before.store.moneyword(place));
                 met.extend(limited(*limit, moneyword).map(str::to_owned));
+            }
+            if code == DONE {
+                met.extend(cleared(action, call.scratch).map(str::to_owned));
             }
         }
         Operation::MakeObj { drawn, .. } if code == DONE => {
@@ -62,6 +67,17 @@ fn limited(limit: u32, moneyword: u32) -> Option<&'static str> {
     })
 }
 
+/// The scratch that a done delete or rename clears.
+fn cleared(action: &Action, scratch: usize) -> Option<&'static str> {
+    match (action, scratch > MIN_SCRATCH) {
+        (Action::DeleteCap, false) => Some("delete_cap with the least scratch"),
+        (Action::DeleteCap, true) => Some("delete_cap with a longer scratch"),
+        (Action::RenameObj { .. }, false) => Some("rename_obj with the least scratch"),
+        (Action::RenameObj { .. }, true) => Some("rename_obj with a longer scratch"),
+        _ => None,
+    }
+}
+
 /// How much mail a process that waits has.
 fn waited(messages: usize) -> &'static str {
     match messages {
@@ -72,7 +88,7 @@ fn waited(messages: usize) -> &'static str {
 }
 
 /// The scenes that must be met.
-pub const SCENES: [&str; 27] = [
+pub const SCENES: [&str; 31] = [
     "locked caller, top bit set, done",
     "locked caller, top bit set, answers 5",
     "locked caller, top bit clear, done",
@@ -97,6 +113,10 @@ pub const SCENES: [&str; 27] = [
     "limit at the parent's moneyword",
     "limit above the parent's moneyword",
     "the largest limit",
+    "delete_cap with the least scratch",
+    "delete_cap with a longer scratch",
+    "rename_obj with the least scratch",
+    "rename_obj with a longer scratch",
     "wait with an empty box",
     "wait with mail",
     "wait with a full box",

@@ -1,4 +1,4 @@
--- 01, "A done delete or rename leaves the scratch all zero; every other call leaves it unchanged."
+-- 01, "A done delete or rename leaves the scratch all zero; every other call leaves it unchanged."; 02, CR 6: "in its whole length".
 use Prim.Native.Nat.{ℕ}
 use mathlib.Core.Bool.{true, false}
 use mathlib.Core.List.{List}

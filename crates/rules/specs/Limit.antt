@@ -1,4 +1,4 @@
--- 01's limits by name, each number once on this side: "The store", and the "Argument ranges for 2".
+-- The limits by name, each number once on this side: 01, "The store", and the "Argument ranges for 2", with what 02 has of them.
 use Prim.Native.Nat.{ℕ}
 
 -- "Volumes are 0 to 3."
@@ -48,9 +48,9 @@ transfer = 256
 abbrev pub buffer : ℕ
 buffer = 256
 
--- "scratch of at least 512 16-bit numbers"
+-- 02, CR 6: "a scratch of 16 16-bit numbers, where 512 were needed"
 abbrev pub scratch : ℕ
-scratch = 512
+scratch = 16
 
 -- "a lock's first word below 2,147,483,648"; "If the presented p1 is 2,147,483,648 or more"
 abbrev pub top : ℕ

@@ -1,4 +1,4 @@
-// 01's limits by name, each number once on this side; the rules have the same (specs/Limit.antt of `rules`).
+// The limits by name, 01's and 02's, each number once on this side; the rules have the same (specs/Limit.antt of `rules`).
 
 // "Volumes are 0 to 3."
 pub const MAX_VOLUME: u32 = 3;
@@ -37,8 +37,8 @@ pub const MAX_TRANSFER: u32 = 256;
 // "answer buffer of at least 256 bytes"
 pub const MIN_BUFFER: usize = 256;
 
-// "scratch of at least 512 16-bit numbers"
-pub const MIN_SCRATCH: usize = 512;
+// 02, CR 6: "a scratch of 16 16-bit numbers, where 512 were needed"
+pub const MIN_SCRATCH: usize = 16;
 
 // "a lock's first word below 2,147,483,648"; "If the presented p1 is 2,147,483,648 or more"
 pub const TOP: u32 = 2147483648;

@@ -6,7 +6,7 @@ use harness::kernel::FormedStore;
 use harness::request::Request;
 use reference::call::{Action, Call, Key, Name, Operation};
 use reference::kernel::{Object, Store};
-use reference::numbers::{DONE, MAX_RIGHTS, MAX_WORD};
+use reference::numbers::{DONE, MAX_RIGHTS, MAX_WORD, MIN_BUFFER, MIN_SCRATCH};
 use trials::encode::encode;
 use trials::random::Random;
 use trials::samples::Shape;
@@ -205,7 +205,7 @@ fn main() {
             deletes(shape, n, &mut cases);
         }
     }
-    let (mut buffer, mut scratch) = (vec![0; 256], vec![0; 512]);
+    let (mut buffer, mut scratch) = (vec![0; MIN_BUFFER], vec![0; MIN_SCRATCH]);
     for _ in 0..ROUNDS {
         for case in &mut cases {
             case.round(&mut buffer, &mut scratch);

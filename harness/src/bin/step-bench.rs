@@ -8,7 +8,7 @@
 use harness::kernel::{self, FormedStore};
 use harness::request::{Request, REPLY};
 use reference::call::{Action, Call, Key, Name, Operation};
-use reference::numbers::MAX_RIGHTS;
+use reference::numbers::{MAX_RIGHTS, MIN_BUFFER, MIN_SCRATCH};
 use std::time::Instant;
 use trials::layout::{BYTES, LINKS, WORDS};
 use trials::random::Random;
@@ -39,7 +39,7 @@ struct Hall {
 }
 
 fn call(caller: Name, operation: Operation) -> Request {
-    Request::new(&Call { caller, operation, buffer: 256, scratch: 512 }, 0)
+    Request::new(&Call { caller, operation, buffer: MIN_BUFFER, scratch: MIN_SCRATCH }, 0)
 }
 
 fn on(key: Key, action: Action) -> Request {
@@ -187,7 +187,7 @@ impl Case {
 
 fn main() {
     let words: Vec<String> = std::env::args().skip(1).collect();
-    let (mut buffer, mut scratch) = (vec![0; 256], vec![0; 512]);
+    let (mut buffer, mut scratch) = (vec![0; MIN_BUFFER], vec![0; MIN_SCRATCH]);
     let mut cases = cases(&hall());
     if let [kind, rounds] = &words[..] {
         let rounds: usize = rounds.parse().expect("a number of rounds");
