@@ -8,3 +8,5 @@ pub mod Meeting
 pub mod Taking
 pub mod Refusing
 pub mod Promising
+-- the run and the scratch's length
+pub mod Theorems

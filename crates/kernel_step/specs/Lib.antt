@@ -6,3 +6,4 @@ pub mod Asks
 pub mod Ends
 -- the public promise
 pub mod Steps
+pub mod Theorems
