@@ -11,7 +11,7 @@ use reference::numbers::*;
 use trials::coverage::refusals;
 use trials::encode::encode;
 use trials::generate::Generator;
-use trials::layout::{BYTES, FIRST_CHILD, LINKS, MASTER, NEXT_CAP, P1, P2, WORDS};
+use trials::layout::{BYTES, LINKS, WORDS};
 use trials::oracle::well_formed;
 use trials::profiles::PROFILES;
 use trials::random::Random;
@@ -175,52 +175,4 @@ fn key(serial: u32, random: &mut Random) -> Key {
 fn derive(parent: Key, p1: u32) -> Operation {
     let (mask, start, end, limit) = (MAX_RIGHTS, 0, 512, MAX_WORD);
     Operation::On(parent, Action::DeriveCap { mask, start, end, limit, p1, p2: 7 })
-}
-
-/// Chains 512 deep and 511 wide: the first, middle or last link is deleted, until none is left.
-#[test]
-fn deleted_at_each_link() {
-    let mut random = Random::new(14);
-    let mut answers = Answers::new();
-    for shape in [Shape::Wide, Shape::Deep] {
-        for place in [0, 1, 2] {
-            let mut store = shaped(1, 64, 512, shape, &mut random);
-            for object in store.objects.values_mut() {
-                object.cash = 1_000_000;
-            }
-            let mut pair = Pair { raw: encode(&store, &mut random), store };
-            loop {
-                let links = links_below_master(&pair.raw);
-                if links.is_empty() {
-                    break;
-                }
-                let at = [0, links.len() / 2, links.len() - 1][place];
-                let name = Name { volume: 0, serial: 0 };
-                let (p1, p2) = links[at];
-                let delete = Operation::On(Key { name, p1, p2 }, Action::DeleteCap);
-                let call = Call {
-                    caller: name,
-                    operation: delete,
-                    buffer: MIN_BUFFER,
-                    scratch: MIN_SCRATCH,
-                };
-                assert_eq!(pair.call(&call, &mut random, &mut answers), DONE);
-            }
-            assert_eq!(pair.store.capabilities.len(), 1);
-            assert!(well_formed(&pair.raw));
-        }
-    }
-}
-
-/// The passwords along the first children of a store of one object, each level's siblings too.
-fn links_below_master(raw: &RawStore) -> Vec<(u32, u32)> {
-    let master = (1..65).map(|object| raw.link(MASTER, object)).find(|slot| *slot != 0);
-    let mut found = Vec::new();
-    let mut at = raw.link(FIRST_CHILD, master.unwrap_or(0));
-    while at != 0 {
-        found.push((raw.get(P1, at), raw.get(P2, at)));
-        let next = raw.link(NEXT_CAP, at);
-        at = if next != 0 { next } else { raw.link(FIRST_CHILD, at) };
-    }
-    found
 }
