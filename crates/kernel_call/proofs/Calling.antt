@@ -1,6 +1,7 @@
 -- The two ways that a call goes, and what is so in both.
 use Prim.Native.Nat.{ℕ, _≤_}
 use mathlib.Core.Path.{_≡_, refl}
+use mathlib.Core.Logic.{Dec·not-not}
 use mathlib.Core.List.{List, [], _∷_}
 use native.Mathlib.Omega.{arith}
 use native.Mathlib.Decide.{decLe}
@@ -17,6 +18,10 @@ pub no-cells : (l : List ℕ) → length l ≡ 0 → l ≡ []
 no-cells [] z = refl
 no-cells (x ∷ l) z = absurd (omega arith)
 
+-- what is so on a well-formed store and on any other, and can be decided, is so: which of the two it is need not be known
+pub either-way : {F P : Type 0} → Dec P → (F → P) → ((F → ⊥) → P) → P
+either-way d formed other = Dec·not-not d .0 (λ n. n (other (λ f. n (formed f))))
+
 module _ {q : Request} {text : List ℕ} {r : Reply} {was is : Slices} where
   pub calls-unsound : (FormedIn was → ⊥) → Nothing Code.illFormed r was is → Calls q text r was is
   calls-unsound bad n = record { unsound = λ _. n; steps = λ f. absurd (bad f) }
@@ -26,10 +31,6 @@ module _ {q : Request} {text : List ℕ} {r : Reply} {was is : Slices} where
 
   -- the reply counts no more bytes than the buffer has
   pub count-fits : Calls q text r was is → r .count ≤ length (is .buffer)
-  count-fits c = go (decLe (r .count) (length (is .buffer))) where
-    go : Dec (r .count ≤ length (is .buffer)) → r .count ≤ length (is .buffer)
-    go (yes h) = h
-    go (no h) =
-        let bad : FormedIn was → ⊥ = λ f.
-        h (omega (arith, length-take (r .count) (is .buffer), c .steps f .rules .count)) in
-        omega (arith, c .unsound bad .reply .none)
+  count-fits c = either-way (decLe (r .count) (length (is .buffer)))
+      (λ f. omega (arith, length-take (r .count) (is .buffer), c .steps f .rules .count))
+      (λ bad. omega (arith, c .unsound bad .reply .none))

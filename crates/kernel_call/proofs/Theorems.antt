@@ -1,5 +1,5 @@
--- Two calls with scratches that are long enough come to the same run, or both are refused by 1. Which of the two need not be known:
--- what is compared are numbers, and these are equal or are not.
+-- Two calls with scratches that are long enough come to the same run, or both are refused by 1. What is compared are numbers, and these
+-- are equal or are not.
 use Prim.Native.Nat.{ℕ, _≤_}
 use mathlib.Core.Path.{_≡_, sym, ap, _∙_}
 use mathlib.Core.List.{List, List-discrete}
@@ -19,6 +19,7 @@ use Rattle.kernel_step.specs.Theorems.{SameRun}
 use Rattle.kernel_step.proofs.Theorems.{same-run}
 use Rattle.kernel_call.specs.Calls.{FormedIn, Calls}
 use Rattle.kernel_call.specs.Theorems.{Same, SameTree}
+use Rattle.kernel_call.proofs.Calling.{either-way}
 
 module _ (q : Request) (text b l w buffer scratch scratch′ : List ℕ) (r r′ : Reply) (is is′ : Slices)
     (long : Limit.scratch ≤ length scratch) (long′ : Limit.scratch ≤ length scratch′)
@@ -63,10 +64,9 @@ module _ (q : Request) (text b l w buffer scratch scratch′ : List ℕ) (r r′
         buffer = ap (λ (s : Slices). s .buffer) (n′ .slices-are) ∙ sym (ap (λ (s : Slices). s .buffer) (n .slices-are));
       }
 
-  -- what follows from both and can be decided is so
-  settled : {P : Type 0} → Dec P → (Same r r′ is is′ → P) → P
-  settled (yes p) get = p
-  settled (no np) get = absurd (np (get (refused (λ f. np (get (stepped f))))))
+  -- what follows from either, and can be decided
+  decided : {P : Type 0} → Dec P → (Same r r′ is is′ → P) → P
+  decided d get = either-way d (λ f. get (stepped f)) (λ bad. get (refused bad))
 
   abbrev answer : Answer
   answer = answerOf r (front r is)
@@ -75,10 +75,10 @@ module _ (q : Request) (text b l w buffer scratch scratch′ : List ℕ) (r r′
   answer′ = answerOf r′ (front r′ is′)
 
   number : (f : Answer → ℕ) → f answer′ ≡ f answer
-  number f = settled (ℕ-discrete (f answer′) (f answer)) (λ s. ap f (s .answer))
+  number f = decided (ℕ-discrete (f answer′) (f answer)) (λ s. ap f (s .answer))
 
   list : (x y : List ℕ) → (Same r r′ is is′ → x ≡ y) → x ≡ y
-  list x y get = settled (List-discrete ℕ-discrete x y) get
+  list x y get = decided (List-discrete ℕ-discrete x y) get
 
   answer-is : answer′ ≡ answer
   answer-is d = record {

@@ -20,6 +20,7 @@ use Rattle.rules.specs.Valid as Valid
 use Rattle.rules.proofs.Undoing as Rules
 use Rattle.call_steps.specs.Request.{callOf, answerOf}
 use Rattle.kernel_step.specs.Steps.{front}
+use Rattle.kernel_call.proofs.Calling.{either-way}
 use Rattle.product_hooks.specs.Turned.{turned, turnedFront}
 use Rattle.product_hooks.specs.Theorems.{Twice, Bytes}
 use Rattle.product_hooks.proofs.Turning.{size-stays, turned-twice}
@@ -119,7 +120,6 @@ undone s w es r W h b small =
 
 pub undoes : Undoes
 unfolding Undoes Runs
-undoes s w es r h b small = go (List-discrete ℕ-discrete (take (r .reply .count) (r .buffer-after)) (w .text)) where
-  go : Dec (take (r .reply .count) (r .buffer-after) ≡ w .text) → take (r .reply .count) (r .buffer-after) ≡ w .text
-  go (yes e) = e
-  go (no ne) = absurd (done-formed s w (h .0) (b .writes .done) (λ W. ne (undone s w es r W h b small)))
+undoes s w es r h b small = either-way (List-discrete ℕ-discrete (take (r .reply .count) (r .buffer-after)) (w .text))
+    (λ W. undone s w es r W h b small)
+    (λ bad. absurd (done-formed s w (h .0) (b .writes .done) bad))
