@@ -3,7 +3,7 @@ use Prim.Native.Nat.{ℕ}
 use mathlib.Core.List.{List, [], _∷_}
 use Rattle.rules.specs.Store as Store
 use Rattle.rules.specs.Call as Call
-use Rattle.rules.specs.Rights.{readNumber, writeNumber}
+use Rattle.rules.specs.Rights.{readNumber, writeNumber, withdrawNumber}
 use Rattle.values.specs.Words.{passwordOf, lockwordOf, windowOf}
 use Rattle.values.specs.declared.window.Window.{Window}
 use Rattle.call_steps.specs.declared.request.Name.{Name}
@@ -37,9 +37,9 @@ callOf r text buffer scratch = record {
   limit = r .limit;
 }
 
--- a call of this number with a range alone; the arguments that it does not use are 0
-unfoldable pub transferRequest : ℕ → Name → Capability → Window → Request
-transferRequest number caller presented range = record {
+-- a call of this number with a range and a sum; the arguments that it does not use are 0
+unfoldable pub presentingRequest : ℕ → Name → Capability → Window → ℕ → Request
+presentingRequest number caller presented range sum = record {
   number = number;
   caller = caller;
   presented = presented;
@@ -49,16 +49,19 @@ transferRequest number caller presented range = record {
   rights = 0;
   drawn = 0 ∷ 0 ∷ [];
   range = range;
-  sum = 0;
+  sum = sum;
   lock = 0 ∷ 0 ∷ [];
   limit = 0;
 }
 
 abbrev pub readRequest : Name → Capability → Window → Request
-readRequest caller presented range = transferRequest readNumber caller presented range
+readRequest caller presented range = presentingRequest readNumber caller presented range 0
 
 abbrev pub writeRequest : Name → Capability → Window → Request
-writeRequest caller presented range = transferRequest writeNumber caller presented range
+writeRequest caller presented range = presentingRequest writeNumber caller presented range 0
+
+abbrev pub withdrawRequest : Name → Capability → ℕ → Request
+withdrawRequest caller presented sum = presentingRequest withdrawNumber caller presented (record { start = 0; end = 0 }) sum
 
 -- with the bytes at the buffer's front
 unfoldable pub answerOf : Reply → List ℕ → Call.Answer

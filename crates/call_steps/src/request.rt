@@ -2,12 +2,13 @@
 ghost use mathlib.Core.Path.{_≡_};
 ghost use Rattle.rules.specs.Call.{noCapability, done, handsBack, tells};
 ghost use Rattle.values.specs.Words.{passwordOf};
-ghost use Rattle.call_steps.specs.Request.{nameOf, capabilityOf, transferRequest, readRequest, writeRequest};
+ghost use Rattle.call_steps.specs.Request.{nameOf, capabilityOf, presentingRequest, readRequest, writeRequest, withdrawRequest};
 ghost use Rattle.call_steps.specs.Refuses.{Refuses};
 ghost use Rattle.call_steps.specs.Replies.{Gives, HandsOver};
 use values::code::DONE;
 use values::moneyword::Moneyword;
 use values::number::READ;
+use values::number::WITHDRAW;
 use values::number::WRITE;
 use values::window::Window;
 
@@ -56,9 +57,15 @@ pub struct Request {
 }
 
 impl Request {
-    // A call with a range alone; the arguments that it does not use are 0.
-    fn transfer(number: u32, caller: Name, presented: Capability, range: Window) -> Request
-        ensures { λ r. ⌜ r ≡ transferRequest number caller presented range ⌝ }
+    // A call with a range and a sum; the arguments that it does not use are 0.
+    fn presenting(
+        number: u32,
+        caller: Name,
+        presented: Capability,
+        range: Window,
+        sum: u32,
+    ) -> Request
+        ensures { λ r. ⌜ r ≡ presentingRequest number caller presented range sum ⌝ }
     {
         Request {
             number: number,
@@ -73,7 +80,7 @@ impl Request {
             rights: 0,
             drawn: [0, 0],
             range: range,
-            sum: 0,
+            sum: sum,
             lock: [0, 0],
             limit: 0,
         }
@@ -83,14 +90,22 @@ impl Request {
     pub fn read(caller: Name, presented: Capability, range: Window) -> Request
         ensures { λ r. ⌜ r ≡ readRequest caller presented range ⌝ }
     {
-        Request::transfer(READ, caller, presented, range)
+        Request::presenting(READ, caller, presented, range, 0)
     }
 
     // A write to this range.
     pub fn write(caller: Name, presented: Capability, range: Window) -> Request
         ensures { λ r. ⌜ r ≡ writeRequest caller presented range ⌝ }
     {
-        Request::transfer(WRITE, caller, presented, range)
+        Request::presenting(WRITE, caller, presented, range, 0)
+    }
+
+    // A withdraw of this sum.
+    pub fn withdraw(caller: Name, presented: Capability, sum: u32) -> Request
+        ensures { λ r. ⌜ r ≡ withdrawRequest caller presented sum ⌝ }
+    {
+        let none = Window { start: 0, end: 0 };
+        Request::presenting(WITHDRAW, caller, presented, none, sum)
     }
 }
 

@@ -23,7 +23,7 @@ use Rattle.values.specs.declared.window.Window.{Window}
 use Rattle.call_steps.specs.declared.request.Name.{Name}
 use Rattle.call_steps.specs.declared.request.Capability.{Capability}
 use Rattle.call_steps.specs.declared.request.Reply.{Reply}
-use Rattle.call_steps.specs.Request.{nameOf, capabilityOf, transferRequest, readRequest, callOf, answerOf}
+use Rattle.call_steps.specs.Request.{nameOf, capabilityOf, presentingRequest, readRequest, callOf, answerOf}
 use Rattle.call_steps.specs.Run.{overlay}
 use Rattle.kernel_step.specs.Slices.{Slices, stateOf, callOn}
 use Rattle.kernel_step.specs.Steps.{front, Steps}
@@ -100,7 +100,7 @@ module _ (was is : Slices) (caller : Name) (x : Capability) (p : Repeat) (d : Pl
 
   -- by none but 2, 3 and 4
   low : y .code ≤ Code.cannotPay
-  unfolding callOf transferRequest answerOf op
+  unfolding callOf presentingRequest answerOf op
   low =
       let code-is : rule (stateOf was) c (S .choice) .answer .code ≡ y .code = ap (λ (o : Outcome). o .answer .code) (S .rules) in
       subst (λ n. n ≤ Code.cannotPay) code-is
@@ -118,7 +118,7 @@ module _ (was is : Slices) (caller : Name) (x : Capability) (p : Repeat) (d : Pl
       ap (λ (n : Answer). n .bytes) (sym answer ∙ refused .others)
 
   unpaid : Unpaid caller (y .code) was is
-  unfolding overlay callOf transferRequest Refusals.caller
+  unfolding overlay callOf presentingRequest Refusals.caller
   unpaid = record {
     nothing = λ four. S .refused .nothing (omega arith) (omega (arith, low, four));
     marks = λ four. S .refused .marks four;

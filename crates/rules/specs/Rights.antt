@@ -79,6 +79,9 @@ readNumber = 2
 abbrev pub writeNumber : ℕ
 writeNumber = 3
 
+abbrev pub withdrawNumber : ℕ
+withdrawNumber = 8
+
 -- the sixteen fees, in call order
 unfoldable pub fees : List ℕ
 fees = 20 ∷ 1 ∷ 2 ∷ 1 ∷ 5 ∷ 5 ∷ 10 ∷ 2 ∷ 2 ∷ 1 ∷ 1 ∷ 5 ∷ 2 ∷ 1 ∷ 0 ∷ 5 ∷ []

@@ -3,3 +3,5 @@
 pub const READ: u32 = 2;
 
 pub const WRITE: u32 = 3;
+
+pub const WITHDRAW: u32 = 8;

@@ -4,7 +4,7 @@ use native.Mathlib.Omega.{arith}
 use lib.Seq.{length-take-le}
 use borrow.Author.Needs.{needs}
 use Rattle.rules.specs.Rights.{op}
-use Rattle.call_steps.specs.Request.{transferRequest}
+use Rattle.call_steps.specs.Request.{presentingRequest}
 use Rattle.product_hooks.proofs.Hooking.{hooked-short, hooked-long}
 use Rattle.product_hooks.proofs.write_by_hook.Statement.{statement}
 use Rattle.product_hooks.proofs.write_by_hook.Tie as tie
@@ -76,7 +76,7 @@ same-length-6 : tie.Need-same-length-6
 same-length-6 c = search needs
 
 returns-2 : tie.Need-returns-2
-unfolding transferRequest op
+unfolding presentingRequest op
 returns-2 c =
     let m = c .before .before .before .before .before .before .before .before in
     let e = m .before .before .before .before .before .before in

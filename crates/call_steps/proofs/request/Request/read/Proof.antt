@@ -3,11 +3,11 @@ use borrow.Author.Needs.{needs}
 use Rattle.call_steps.proofs.request.Request.read.Statement.{statement}
 use Rattle.call_steps.proofs.request.Request.read.Tie as tie
 
-transfer-requires : tie.Need-transfer-requires
-transfer-requires c κs = search needs
+presenting-requires : tie.Need-presenting-requires
+presenting-requires c κs = search needs
 
 returns : tie.Need-returns
-returns c = c .transfer .ensures
+returns c = c .presenting .ensures
 
 pub read-spec : {M : Type 1} → statement M
-read-spec = tie.close (tie.spec transfer-requires returns)
+read-spec = tie.close (tie.spec presenting-requires returns)

@@ -3,11 +3,11 @@ use borrow.Author.Needs.{needs}
 use Rattle.call_steps.proofs.request.Request.write.Statement.{statement}
 use Rattle.call_steps.proofs.request.Request.write.Tie as tie
 
-transfer-requires : tie.Need-transfer-requires
-transfer-requires c κs = search needs
+presenting-requires : tie.Need-presenting-requires
+presenting-requires c κs = search needs
 
 returns : tie.Need-returns
-returns c = c .transfer .ensures
+returns c = c .presenting .ensures
 
 pub write-spec : {M : Type 1} → statement M
-write-spec = tie.close (tie.spec transfer-requires returns)
+write-spec = tie.close (tie.spec presenting-requires returns)
