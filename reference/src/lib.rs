@@ -3,8 +3,8 @@
 //!
 //! `numbers` has the papers' numbers by name; `call` and `kernel` are the calls and the store;
 //! `script` runs 01's scripts (`hall-reference`); `ledger` and `claims` check demand 3 beside a
-//! run. Above the store, `drive` is 02's loom drive, in exact rational arithmetic, and `hooks` has
-//! its reads and writes by hook.
+//! run. Above the store, `drive` is 02's loom drive, in exact rational arithmetic, `hooks` has its
+//! reads and writes by hook, and `royalties` its bills by the pick.
 
 pub mod call;
 pub mod claims;
@@ -13,4 +13,5 @@ pub mod hooks;
 pub mod kernel;
 pub mod ledger;
 pub mod numbers;
+pub mod royalties;
 pub mod script;

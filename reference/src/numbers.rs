@@ -1,6 +1,6 @@
 //! 01's numbers by name and those of 02, each written once here: answers and limits as in the
-//! verified code (crates/values/src/code.rt and limit.rt, crates/product_drive/src/limit.rt, held
-//! to these by a test), rights, and the longest line.
+//! verified code (crates/values/src/code.rt and limit.rt, and limit.rt of crates/product_drive and
+//! crates/product_royalties, held to these by a test), rights, and the longest line.
 
 /// The call was done.
 pub const DONE: u32 = 0;
@@ -38,9 +38,11 @@ pub const BOX_EMPTY: u32 = 15;
 pub const NOT_REVIVABLE: u32 = 16;
 /// 02, CR 3: "the window is not N × W bytes long"
 pub const WRONG_LENGTH: u32 = 17;
+/// 02, CR 7: "the count would pass 4,294,967,295"
+pub const COUNT_PASSES: u32 = 18;
 
-/// 01's refusals 2 to 16, and the loom drive's own of 02, 17. Refusal 1 has no case: a store over
-/// maps that began fresh is always well formed.
+/// 01's refusals 2 to 16, and of 02 the loom drive's own, 17, and that of royalties, 18. Refusal 1
+/// has no case: a store over maps that began fresh is always well formed.
 #[repr(u32)]
 #[derive(Clone, Copy, Debug, PartialEq, Eq, PartialOrd, Ord)]
 pub enum Refusal {
@@ -60,6 +62,7 @@ pub enum Refusal {
     BoxEmpty = BOX_EMPTY,
     NotRevivable = NOT_REVIVABLE,
     WrongLength = WRONG_LENGTH,
+    CountPasses = COUNT_PASSES,
 }
 
 impl Refusal {
@@ -108,6 +111,17 @@ pub const MAX_PICKS: u32 = 65_535;
 pub const MAX_COUNTS: u32 = 16_777_215;
 /// "W bytes a row, 1 to 64"
 pub const MAX_ROW: u32 = 64;
+/// 02, CR 7: "The first 10,000 picks", and "those after up to 100,000"
+pub const FIRST_PICKS: u32 = 10_000;
+pub const NEXT_PICKS: u32 = 100_000;
+/// "cost 40 thousandths each", "cost 30", "and the rest 20"
+pub const FIRST_RATE: u32 = 40;
+pub const NEXT_RATE: u32 = 30;
+pub const LAST_RATE: u32 = 20;
+/// Thousandths in the smallest credit: "divided by 1,000"
+pub const CREDIT: u32 = 1_000;
+/// "The pick count p is kept .. from 0 to 4,294,967,295"
+pub const MAX_COUNT: u32 = 4_294_967_295;
 
 /// "Rights add up": the thirteen, and none for a call that presents no capability.
 pub mod right {

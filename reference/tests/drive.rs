@@ -1,13 +1,14 @@
 //! 02's loom drive on the reference: the question, whole repeats, each range's both sides, the
 //! order of the answers, and what a pick leaves.
 
-use reference::call::{Action, Call, Key, Name, Operation};
+mod boss;
+
+use boss::{by_boss, pay, BOSS};
+use reference::call::{Action, Key, Name, Operation};
 use reference::drive::{Pick, Picked, Place, Repeat};
 use reference::kernel::{Capability, Object, Store};
 use reference::numbers::*;
 
-/// The fresh store's process, which calls.
-const BOSS: Key = Key { name: Name { volume: 0, serial: 1 }, p1: 5, p2: 9 };
 /// A data object of the largest size.
 const CARDS: Key = Key { name: Name { volume: MAX_VOLUME, serial: MAX_SERIAL }, p1: 11, p2: 12 };
 /// A capability of it, whose window has the rows.
@@ -22,10 +23,6 @@ const CASH: u32 = 1_000_000;
 const FEE: u32 = 1;
 /// 640 mm at 20 picks to the centimetre.
 const PICKS_OF_640_MM: u32 = 64 * 20;
-
-fn by_boss(operation: Operation) -> Call {
-    Call { caller: BOSS.name, operation, buffer: MIN_BUFFER, scratch: MIN_SCRATCH }
-}
 
 /// A store with so long a window; the two capabilities that have it are children of the master.
 fn hall(length: u32) -> Store {
@@ -99,8 +96,7 @@ fn follows(store: &mut Store, repeat: Repeat, place: Place) -> (Place, u32) {
     let start = rows(store).start + (place.next - 1) * repeat.row;
     let row: Vec<u8> = (start..start + repeat.row).map(byte).collect();
     assert_eq!(picked.bytes, row, "{repeat:?} {place:?}");
-    object(&mut expected, BOSS).cash -= FEE;
-    expected.house += FEE;
+    pay(&mut expected, FEE);
     assert!(*store == expected, "changed more: {repeat:?} {place:?}");
     let steps = place.steps + picked.step;
     assert!(near(repeat, place.next, steps), "{repeat:?} {place:?} {steps}");

@@ -1,7 +1,10 @@
 //! 02's patterns by hook on the reference: every bit of a tile, tiles written out, every length;
 //! and what a write and a read by hook do.
 
-use reference::call::{Action, Call, Key, Name, Operation};
+mod boss;
+
+use boss::{by_boss, pay, BOSS};
+use reference::call::{Action, Key, Name, Operation};
 use reference::hooks::{turned, Hooked, Transfer, TILE};
 use reference::kernel::Store;
 use reference::numbers::*;
@@ -65,16 +68,11 @@ fn every_length() {
     }
 }
 
-/// The fresh store's process, which calls, and a data object.
-const BOSS: Key = Key { name: Name { volume: 0, serial: 1 }, p1: 5, p2: 9 };
+/// A data object.
 const CARDS: Key = Key { name: Name { volume: 2, serial: 3 }, p1: 21, p2: 22 };
 const CASH: u32 = 1_000;
 /// What a read costs, and a write.
 const FEES: [u32; 2] = [1, 2];
-
-fn by_boss(operation: Operation) -> Call {
-    Call { caller: BOSS.name, operation, buffer: MIN_BUFFER, scratch: MIN_SCRATCH }
-}
 
 fn hall() -> Store {
     let mut store = Store::fresh(CASH, BOSS.p1, BOSS.p2);
@@ -113,11 +111,6 @@ fn written_and_read_back() {
             assert!(store == expected, "{length} bytes at {start}");
         }
     }
-}
-
-fn pay(store: &mut Store, fee: u32) {
-    store.objects.get_mut(&BOSS.name).expect("the caller").cash -= fee;
-    store.house += fee;
 }
 
 /// "Plain reads and writes remain": a plain read finds what a write by hook put there, and a read
