@@ -72,3 +72,7 @@ notRevivable = 16
 -- 02, CR 3: "the window is not N × W bytes long"
 abbrev pub wrongLength : ℕ
 wrongLength = 17
+
+-- 02, CR 7: "the count would pass 4,294,967,295"
+abbrev pub countPasses : ℕ
+countPasses = 18

@@ -54,3 +54,6 @@ pub const NOT_REVIVABLE: u32 = 16;
 
 // 02, CR 3: "the window is not N × W bytes long"
 pub const WRONG_LENGTH: u32 = 17;
+
+// 02, CR 7: "the count would pass 4,294,967,295"
+pub const COUNT_PASSES: u32 = 18;
