@@ -16,11 +16,14 @@ use Rattle.product_drive.specs.declared.repeat.Place.{Place}
 use Rattle.product_drive.specs.declared.picked.Picked.{Picked}
 use Rattle.product_drive.specs.Picks.{Picks}
 use Rattle.product_hooks.specs.Hooked.{Hooked}
+use Rattle.product_royalties.specs.declared.billed.Billed.{Billed}
+use Rattle.product_royalties.specs.Bills.{Bills}
 use Rattle.exports.specs.Numbers.{nameAt, capabilityAt, windowAt, Fitting}
 use Rattle.exports.specs.Store as Store
 use Rattle.exports.specs.Question as Question
 use Rattle.exports.specs.Drive as Drive
 use Rattle.exports.specs.Hooks as Hooks
+use Rattle.exports.specs.Royalties as Royalties
 
 -- ---- a call
 
@@ -101,6 +104,28 @@ module _ (request : Name → Capability → Window → Request) {numbers text re
     made = λ _. record {
       reply = r;
       hooked = rw en at (rw ex at (rw ev at hooked));
+      numbers = e;
+      code-is = refl;
+    };
+    kept = λ bad. absurd (bad f);
+  }
+
+-- ---- a bill
+
+module _ {request reply reply′ : List ℕ} {was is : Slices} where
+  pub bill-kept : {code : ℕ} → (Fitting Royalties.requestLength Royalties.replyLength request reply → ⊥)
+      → Store.Unanswered code reply reply′ was is → Royalties.Exported request code reply reply′ was is
+  bill-kept bad k = record { made = λ f. absurd (bad f); kept = λ _. k }
+
+  pub bill-made : {n : Name} {x : Capability} {r : Billed}
+      → Fitting Royalties.requestLength Royalties.replyLength request reply
+      → n ≡ nameAt request 0 → x ≡ capabilityAt request 2
+      → Bills n x (Royalties.countOf request) (Royalties.picksOf request) r was is → reply′ ≡ Royalties.numbersOf r
+      → Royalties.Exported request (r .code) reply reply′ was is
+  bill-made {r = r} f en ex bills e = record {
+    made = λ _. record {
+      billed = r;
+      bills = rw en at (rw ex at bills);
       numbers = e;
       code-is = refl;
     };

@@ -4,3 +4,4 @@ pub mod Store
 pub mod Question
 pub mod Drive
 pub mod Hooks
+pub mod Royalties

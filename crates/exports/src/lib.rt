@@ -4,4 +4,5 @@ pub mod drive;
 pub mod hooks;
 mod numbers;
 pub mod question;
+pub mod royalties;
 pub mod store;

@@ -1,0 +1,29 @@
+-- `put_billed` writes the numbers in their order.
+use native.Mathlib.Omega.{arith}
+use lib.ListN.{length-set}
+use borrow.Author.Needs.{needs}
+use Rattle.exports.specs.Royalties.{numbersOf}
+use Rattle.exports.proofs.Filled.{filled}
+use Rattle.exports.proofs.royalties.put_billed.Statement.{statement}
+use Rattle.exports.proofs.royalties.put_billed.Tie as tie
+
+slice-write-numbers : tie.Need-slice-write-numbers
+slice-write-numbers c = search needs
+
+slice-write-numbers-2 : tie.Need-slice-write-numbers-2
+slice-write-numbers-2 c = simp length-set (omega arith)
+
+slice-write-numbers-3 : tie.Need-slice-write-numbers-3
+slice-write-numbers-3 c = simp length-set (omega arith)
+
+same-length : tie.Need-same-length
+same-length c = simp length-set
+
+returns : tie.Need-returns
+unfolding numbersOf
+returns c = filled (numbersOf (c .args .r)) (c .args .numbers .now) (c .pre)
+
+pub put-billed-spec : {M : Type 1} → statement M
+put-billed-spec =
+    tie.close
+    (tie.spec slice-write-numbers slice-write-numbers-2 slice-write-numbers-3 same-length returns)
