@@ -27,6 +27,22 @@ pub fn holding(store: &Store, call: &Call) -> Vec<Condition> {
     list.0
 }
 
+/// Puts into a store what the fee of a call that was answered so leaves: by 2 and 3 nothing, by 4
+/// the mark, else the fee is paid.
+pub fn leave_fee(store: &mut Store, call: &Call, code: u32) {
+    let Some(caller) = store.objects.get_mut(&call.caller) else {
+        return;
+    };
+    match code {
+        OUT_OF_RANGE | NOT_RUNNING => {}
+        CANNOT_PAY => caller.terminated = true,
+        _ => {
+            caller.cash -= fee(call);
+            store.house += fee(call);
+        }
+    }
+}
+
 struct List(Vec<Condition>);
 
 impl List {

@@ -528,7 +528,7 @@ fn suits(number: u32, object: Option<&Object>, capability: &Capability) -> bool 
 }
 
 /// The most that can be withdrawn by a capability.
-fn limit(store: &Store, place: Place) -> u32 {
+pub(crate) fn limit(store: &Store, place: Place) -> u32 {
     let climb = store.climb(place);
     let moneywords = climb.iter().map(|place| store.moneyword(*place));
     moneywords.min().unwrap_or(0)

@@ -2,13 +2,15 @@
 //!
 //! `generate`, with `profiles` and `random`, makes random calls and scripts (`make-script`);
 //! `conditions`, `scenes` and `coverage` count what they meet (`coverage`). `picks` makes picks of
-//! the loom drive and `hooks` reads and writes by hook; `met` counts what those meet. `edges` is
-//! 01's edges as scripts; `examples` prints answered scripts as definitions (`script-table`).
+//! the loom drive, `hooks` reads and writes by hook, and `bills` those of royalties; `met` counts
+//! what those meet. `edges` is 01's edges as scripts; `examples` prints answered scripts as
+//! definitions (`script-table`).
 //!
 //! `raw` is a store in slices (`layout` has the offsets, `encode` lays a store out), `oracle` and
 //! `plain` check that slices are well formed, `damage` and `crafted` spoil them, and `samples`
 //! are stores to do so with.
 
+pub mod bills;
 pub mod conditions;
 pub mod coverage;
 pub mod crafted;

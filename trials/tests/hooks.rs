@@ -1,12 +1,12 @@
 //! Random reads and writes by hook on the reference, between the calls of random runs: what each
 //! gives and leaves by a second writing, and every scene met.
 
-use reference::call::{call_kind, Answer};
+use reference::call::Answer;
 use reference::claims;
 use reference::hooks::{Hooked, Transfer};
 use reference::kernel::Store;
 use reference::numbers::*;
-use trials::conditions::holding;
+use trials::conditions::{holding, leave_fee};
 use trials::generate::Generator;
 use trials::hooks::MetByHook;
 use trials::profiles::PROFILES;
@@ -28,17 +28,7 @@ fn expected(before: &Store, hooked: &Hooked) -> (Answer, Store) {
     let (call, mut store) = (hooked.unturned(), before.clone());
     let code = holding(before, &call).first().map_or(DONE, |condition| condition.refusal);
     let mut answer = Answer { code, ..Answer::default() };
-    let fee = call_kind(call.operation.number()).map_or(0, |kind| kind.fee);
-    if let Some(caller) = store.objects.get_mut(&hooked.caller) {
-        match code {
-            OUT_OF_RANGE | NOT_RUNNING => {}
-            CANNOT_PAY => caller.terminated = true,
-            _ => {
-                caller.cash -= fee;
-                store.house += fee;
-            }
-        }
-    }
+    leave_fee(&mut store, &call, code);
     if code == DONE {
         let object = store.objects.get_mut(&hooked.key.name).expect("an object");
         let range = &mut object.bytes[hooked.start as usize..hooked.end as usize];

@@ -6,6 +6,7 @@ const REFERENCE: &str = include_str!("../../reference/src/numbers.rs");
 const CODES: &str = include_str!("../../crates/values/src/code.rt");
 const LIMITS: &str = include_str!("../../crates/values/src/limit.rt");
 const DRIVE: &str = include_str!("../../crates/product_drive/src/limit.rt");
+const ROYALTIES: &str = include_str!("../../crates/product_royalties/src/limit.rt");
 const RIGHTS: &str = include_str!("../../crates/values/src/rights.rt");
 
 /// A line `pub const NAME: type = value;`: the name and the value.
@@ -29,11 +30,13 @@ fn constants(text: &str) -> BTreeMap<&str, u64> {
 fn numbers_are_the_same() {
     let (outer, rights) = REFERENCE.split_once("pub mod right").expect("the rights");
     let mut verified = constants(CODES);
-    assert_eq!(verified.len(), 18);
+    assert_eq!(verified.len(), 19);
     verified.extend(constants(LIMITS));
-    let drive = constants(DRIVE);
-    assert_eq!(drive.len(), 3);
-    verified.extend(drive);
+    for (product, count) in [(DRIVE, 3), (ROYALTIES, 7)] {
+        let limits = constants(product);
+        assert_eq!(limits.len(), count);
+        verified.extend(limits);
+    }
     // of a line's bytes, which the reference has by their type
     assert_eq!(verified.remove("MAX_BYTE"), Some(u64::from(u8::MAX)));
     let mut ours = constants(outer);

@@ -2,12 +2,14 @@
 //! and the step by a second writing, what a pick leaves, and every scene met. And the examples of
 //! the verified drive's definitions.
 
-use reference::call::{call_kind, Action, Call, Key, Name, Operation};
+mod table;
+
+use reference::call::{Action, Call, Key, Name, Operation};
 use reference::claims;
 use reference::drive::{Pick, Picked, Place, Repeat};
 use reference::kernel::Store;
 use reference::numbers::*;
-use trials::conditions::{holding, Condition};
+use trials::conditions::{holding, leave_fee, Condition};
 use trials::generate::Generator;
 use trials::met::Met;
 use trials::picks::SCENES;
@@ -84,16 +86,8 @@ fn expected(store: &Store, pick: &Pick) -> Picked {
 /// The store after a pick that was answered so.
 fn store_after(before: &Store, pick: &Pick, code: u32) -> Store {
     let mut store = before.clone();
-    let fee = call_kind(read(pick, 0).operation.number()).map_or(0, |kind| kind.fee);
-    if let Some(caller) = store.objects.get_mut(&pick.caller) {
-        match code {
-            DONE => {
-                caller.cash -= fee;
-                store.house += fee;
-            }
-            CANNOT_PAY => caller.terminated = true,
-            _ => {}
-        }
+    if [DONE, CANNOT_PAY].contains(&code) {
+        leave_fee(&mut store, &read(pick, 0), code);
     }
     store
 }
@@ -140,22 +134,11 @@ fn random_picks() {
 /// The table of examples that the definitions of the verified drive are proved to hold.
 const EDGES: &str = include_str!("../../crates/product_drive/specs/Edges.antt");
 
-/// The numbers of a row: N, C, W, next pick, steps; whether they fit; step, next pick, steps.
-fn edge(line: &str) -> Option<[u32; 9]> {
-    let row = line.trim_start().trim_start_matches("∷ ").strip_prefix("edge ")?;
-    let number = |word: &str| match word {
-        "true" => Some(1),
-        "false" => Some(0),
-        digits => digits.parse().ok(),
-    };
-    let numbers: Option<Vec<u32>> = row.split(' ').map(number).collect();
-    numbers?.try_into().ok()
-}
-
-/// The reference gives for each example what the definitions do.
+/// The reference gives for each example what the definitions do: N, C, W, next pick, steps; whether
+/// they fit; step, next pick, steps.
 #[test]
 fn edges() {
-    let edges: Vec<[u32; 9]> = EDGES.lines().filter_map(edge).collect();
+    let edges = table::edges(EDGES);
     assert_eq!(edges.len(), 20);
     for [picks, counts, row, next, steps, fits, step, after, steps_after] in edges {
         let repeat = Repeat { picks, counts, row };
