@@ -28,7 +28,7 @@ pub fn by_boss(pair: &mut Pair, operation: Operation, random: &mut Random) {
 /// A weaver without cash, and bytes at random, of which two capabilities that are no masters see so
 /// many.
 pub fn hall(length: u32, random: &mut Random) -> Pair {
-    let store = Store::fresh(100_000, BOSS.p1, BOSS.p2);
+    let store = Store::fresh(MAX_WORD, BOSS.p1, BOSS.p2);
     let mut pair = Pair { raw: encode(&store, random), store };
     for (drawn, size, flag) in [(WEAVER, 0, 1), (CARDS, MAX_SIZE, 0)] {
         let make = Operation::MakeObj { size, flag, rights: MAX_RIGHTS, drawn };

@@ -1,5 +1,5 @@
-//! The C functions of the verified kernel, of the loom drive and of patterns by hook as safe
-//! functions on slices. All unsafe code is here, but for `stack`.
+//! The C functions of the verified kernel, of the loom drive, of patterns by hook and of royalties
+//! as safe functions on slices. All unsafe code is here, but for `stack`.
 
 use crate::request::{Request, REPLY};
 use trials::raw::RawStore;
@@ -55,6 +55,19 @@ extern "C" {
     ) -> u32;
 
     fn hook_turn(pattern: *mut u8, pattern_length: usize);
+
+    fn royalty_bill(
+        bytes: *mut u8,
+        bytes_length: usize,
+        links: *mut u16,
+        links_length: usize,
+        words: *mut u32,
+        words_length: usize,
+        request: *const u32,
+        request_length: usize,
+        reply: *mut u32,
+        reply_length: usize,
+    ) -> u32;
 }
 
 /// Declares entry points of the kernel: the store's slices, the text, the buffer, the scratch, the
@@ -331,6 +344,27 @@ pub fn write_by_hook(raw: &mut RawStore, text: &[u8], request: &[u32], reply: &m
 pub fn turn(pattern: &mut [u8]) {
     // SAFETY: the pointer comes with its slice's length, and the slice is lent for writing.
     unsafe { hook_turn(pattern.as_mut_ptr(), pattern.len()) }
+}
+
+/// A bill on any store: its code; the reply is written into its slice.
+pub fn bill(raw: &mut RawStore, request: &[u32], reply: &mut [u32]) -> u32 {
+    let RawStore { bytes, links, words } = raw;
+    // SAFETY: each pointer comes with its slice's length; the slices that are written are lent
+    // for writing, and no two overlap.
+    unsafe {
+        royalty_bill(
+            bytes.as_mut_ptr(),
+            bytes.len(),
+            links.as_mut_ptr(),
+            links.len(),
+            words.as_mut_ptr(),
+            words.len(),
+            request.as_ptr(),
+            request.len(),
+            reply.as_mut_ptr(),
+            reply.len(),
+        )
+    }
 }
 
 /// A store that the verified check has found well formed, and only `step`, `step_into` and `pick`

@@ -1,16 +1,17 @@
-//! The verified code and the reference side by side: a call, a question, a pick, or a read or write
-//! by hook is made on both, and all that it gives and leaves is compared.
+//! The verified code and the reference side by side: a call, a question, a pick, a read or write by
+//! hook, or a bill is made on both, and all that it gives and leaves is compared.
 
 use crate::kernel::{self, FormedStore};
 use crate::request::{
-    answer, hook_request, pick_request, picked, window_request, Request, PICK_REPLY, REPLY,
-    WINDOW_REPLY,
+    answer, bill_request, billed, hook_request, pick_request, picked, window_request, Request,
+    BILL_REPLY, PICK_REPLY, REPLY, WINDOW_REPLY,
 };
 use reference::call::{call_kind, Answer, Call, Key, Name};
 use reference::drive::{Pick, Picked};
 use reference::hooks::{Hooked, Transfer};
 use reference::kernel::Store;
 use reference::numbers::*;
+use reference::royalties::{Bill, Billed};
 use std::collections::BTreeMap;
 use trials::random::Random;
 use trials::raw::{decode, RawStore};
@@ -125,6 +126,14 @@ pub fn hooked_raw(raw: &mut RawStore, hooked: &Hooked, expected: &Answer, random
     assert!(buffer == buffer_after(&expected.bytes, &lent), "buffer: {hooked:?}");
 }
 
+/// Makes a bill on the raw store alone: it gives what is expected, whatever its reply held.
+pub fn bill_raw(raw: &mut RawStore, bill: &Bill, expected: &Billed, random: &mut Random) {
+    let mut reply = [(); BILL_REPLY].map(|()| random.bits() as u32);
+    let code = kernel::bill(raw, &bill_request(bill), &mut reply);
+    assert_eq!(code, reply[0], "the code is returned, too");
+    assert_eq!(billed(reply), *expected, "{bill:?}");
+}
+
 impl Pair {
     /// Makes the call on both, and compares all that it leaves; the answer's code.
     pub fn call(&mut self, call: &Call, random: &mut Random, answers: &mut Answers) -> u32 {
@@ -188,6 +197,21 @@ impl Pair {
         plain.call(&hooked.plain(), random, &mut Answers::new());
         assert!(self.store == plain.store, "otherwise than the plain call: {hooked:?}");
         assert!(self.raw == plain.raw, "slices: {hooked:?}");
+        expected
+    }
+
+    /// Makes the bill on both, and compares all that it leaves: the slices to those that the plain
+    /// withdraw of its sum leaves on a copy, where their meaning is compared. Where the count would
+    /// pass there is none, and nothing changes.
+    pub fn bill(&mut self, bill: &Bill, random: &mut Random) -> Billed {
+        let mut plain = self.clone();
+        let expected = bill.run(&mut self.store);
+        bill_raw(&mut self.raw, bill, &expected, random);
+        if let Some(total) = bill.total() {
+            plain.call(&bill.withdraw(bill.sum(total)), random, &mut Answers::new());
+        }
+        assert!(self.store == plain.store, "otherwise than the plain call: {bill:?}");
+        assert!(self.raw == plain.raw, "slices: {bill:?}");
         expected
     }
 }

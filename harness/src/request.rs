@@ -1,10 +1,11 @@
 //! A call as the verified kernel takes it: 20 numbers and the bytes that come with it; and its
-//! reply, 9 numbers, as an answer. The question for a window, a pick of the loom drive and a read or
-//! a write by hook have requests of their own.
+//! reply, 9 numbers, as an answer. The question for a window, a pick of the loom drive, a read or a
+//! write by hook and a bill of royalties have requests of their own.
 
 use reference::call::{Action, Answer, Call, Key, Name, Operation};
 use reference::drive::{Pick, Picked, Place, Repeat};
 use reference::hooks::Hooked;
+use reference::royalties::{Bill, Billed};
 
 /// The numbers of a request, in the order of the kernel's `Request`.
 pub const REQUEST: usize = 20;
@@ -21,6 +22,10 @@ pub const PICK_REPLY: usize = 5;
 /// The numbers of a read or a write by hook: those of the question, and the range. Its reply is a
 /// call's.
 pub const HOOK_REQUEST: usize = WINDOW_REQUEST + 2;
+/// The numbers of a bill: those of the question, the count and the picks.
+pub const BILL_REQUEST: usize = WINDOW_REQUEST + 2;
+/// The numbers of its reply: the code, the count and the sum.
+pub const BILL_REPLY: usize = 3;
 
 /// Everything that a call can bring; what a call does not use is what `filler` says.
 #[derive(Clone, Debug)]
@@ -120,21 +125,30 @@ pub fn window_request(caller: Name, key: Key) -> [u32; WINDOW_REQUEST] {
     [volume, serial, of, number, key.p1, key.p2]
 }
 
+/// The numbers of a question, and those that a request has after them.
+fn presented<const N: usize>(caller: Name, key: Key, after: &[u32]) -> [u32; N] {
+    let mut numbers = [0; N];
+    let (question, rest) = numbers.split_at_mut(WINDOW_REQUEST);
+    question.copy_from_slice(&window_request(caller, key));
+    rest.copy_from_slice(after);
+    numbers
+}
+
 /// The numbers of a pick.
 pub fn pick_request(pick: &Pick) -> [u32; PICK_REQUEST] {
     let Repeat { picks, counts, row } = pick.repeat;
     let Place { next, steps } = pick.place;
-    let mut numbers = [0; PICK_REQUEST];
-    let (presented, rest) = numbers.split_at_mut(WINDOW_REQUEST);
-    presented.copy_from_slice(&window_request(pick.caller, pick.key));
-    rest.copy_from_slice(&[picks, counts, row, next, steps]);
-    numbers
+    presented(pick.caller, pick.key, &[picks, counts, row, next, steps])
 }
 
 /// The numbers of a read or a write by hook.
 pub fn hook_request(hooked: &Hooked) -> [u32; HOOK_REQUEST] {
-    let [volume, serial, of, number, p1, p2] = window_request(hooked.caller, hooked.key);
-    [volume, serial, of, number, p1, p2, hooked.start, hooked.end]
+    presented(hooked.caller, hooked.key, &[hooked.start, hooked.end])
+}
+
+/// The numbers of a bill.
+pub fn bill_request(bill: &Bill) -> [u32; BILL_REQUEST] {
+    presented(bill.caller, bill.key, &[bill.count, bill.picks])
 }
 
 /// What a pick's reply gives, with its bytes from the buffer's front.
@@ -142,4 +156,9 @@ pub fn picked(reply: [u32; PICK_REPLY], buffer: &[u8]) -> Picked {
     let [code, step, next, steps, count] = reply;
     let bytes = buffer[..count as usize].to_vec();
     Picked { code, step, place: Place { next, steps }, bytes }
+}
+
+/// What a bill's reply gives.
+pub fn billed([code, count, sum]: [u32; BILL_REPLY]) -> Billed {
+    Billed { code, count, sum }
 }

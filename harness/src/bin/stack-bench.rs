@@ -1,11 +1,12 @@
 //! How deep the verified functions go on the stack: the check on several shapes of tree, and each
-//! call on a chain of capabilities, 512 deep where the call needs no free one; a question, a pick,
-//! and a write and a read by hook on that chain.
+//! call on a chain of capabilities, 512 deep where the call needs no free one; a question, a pick, a
+//! write and a read by hook, and a bill on that chain.
 
 use harness::kernel::{self, FormedStore};
 use harness::pair::enter_hooked;
 use harness::request::{
-    hook_request, pick_request, window_request, Request, PICK_REPLY, REPLY, WINDOW_REPLY,
+    bill_request, hook_request, pick_request, window_request, Request, BILL_REPLY, PICK_REPLY,
+    REPLY, WINDOW_REPLY,
 };
 use harness::stack::depth;
 use reference::call::{Action, Call, Key, Name, Operation};
@@ -13,6 +14,7 @@ use reference::drive::{Pick, Place, Repeat};
 use reference::hooks::{Hooked, Transfer};
 use reference::kernel::{Capability, Message, Object, Store};
 use reference::numbers::*;
+use reference::royalties::Bill;
 use trials::encode::encode;
 use trials::random::Random;
 use trials::raw::RawStore;
@@ -141,6 +143,15 @@ fn hook_depths(store: &Store) -> [usize; 2] {
     })
 }
 
+/// The depth of a bill at the lowest capability, for which something is taken on the whole chain.
+fn bill_depth(store: &Store) -> usize {
+    let (_, key) = ends(store);
+    let request = bill_request(&Bill { caller: NAME, key, count: FIRST_PICKS, picks: 500 });
+    let mut raw = encode(store, &mut Random::new(4));
+    let mut reply = [0; BILL_REPLY];
+    depth(|| assert_eq!(kernel::bill(&mut raw, &request, &mut reply), DONE))
+}
+
 fn main() {
     let mut random = Random::new(2);
     println!("bytes of stack below the Rust function that makes the call, its own included");
@@ -176,4 +187,5 @@ fn main() {
     let [write, read] = hook_depths(&full);
     println!("{:40}{write:>8}", "hook_write");
     println!("{:40}{read:>8}", "hook_read");
+    println!("{:40}{:>8}", "royalty_bill", bill_depth(&full));
 }
