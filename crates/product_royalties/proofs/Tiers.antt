@@ -52,15 +52,23 @@ tier : (r p q : ℕ) → p ≤ q → ((i : ℕ) → p < i → i ≤ q → rate i
 tier r p q l same =
     ap thousandths (sym (add-sub-of-le l)) ∙ at-rate r p (q - p) (λ i k h. same i k (omega (arith, h, l)))
 
-pub first : (p : ℕ) → p ≤ firstPicks → thousandths p ≡ p * firstRate
+-- the products, in each tier
+abbrev pub inFirst : ℕ → ℕ
+inFirst p = p * firstRate
+
+abbrev pub inNext : ℕ → ℕ
+inNext p = inFirst firstPicks + (p - firstPicks) * nextRate
+
+abbrev pub inLast : ℕ → ℕ
+inLast p = inNext nextPicks + (p - nextPicks) * lastRate
+
+pub first : (p : ℕ) → p ≤ firstPicks → thousandths p ≡ inFirst p
 first p h = omega (arith, none, tier firstRate 0 p (omega arith) (λ i l k. rate-first i (omega (arith, h, k))))
 
-pub next : (p : ℕ) → firstPicks ≤ p → p ≤ nextPicks
-    → thousandths p ≡ firstPicks * firstRate + (p - firstPicks) * nextRate
+pub next : (p : ℕ) → firstPicks ≤ p → p ≤ nextPicks → thousandths p ≡ inNext p
 next p l h = omega (arith, first firstPicks (omega arith), tier nextRate firstPicks p l (λ i k m. rate-next i k (omega (arith, h, m))))
 
-pub last : (p : ℕ) → nextPicks ≤ p
-    → thousandths p ≡ firstPicks * firstRate + (nextPicks - firstPicks) * nextRate + (p - nextPicks) * lastRate
+pub last : (p : ℕ) → nextPicks ≤ p → thousandths p ≡ inLast p
 last p l = omega (arith, next nextPicks (omega arith) (omega arith), tier lastRate nextPicks p l (λ i k m. rate-last i k))
 
 -- ---- they grow, and how far

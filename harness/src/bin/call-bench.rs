@@ -1,17 +1,14 @@
 //! Times the verified `step` beside the reference, in one run: lists of calls of one kind on a
-//! small and on a full store, and deletes of many descendants; and a bill beside the plain withdraw
-//! of its sum, both checked. Prints medians and ratios.
+//! small and on a full store, and deletes of many descendants. Prints medians and ratios.
 
 use harness::bench::{call, keys, median, processes, time};
-use harness::kernel::{self, FormedStore};
-use harness::request::{bill_request, Request, BILL_REPLY, BILL_REQUEST};
+use harness::kernel::FormedStore;
+use harness::request::Request;
 use reference::call::{Action, Call, Key, Name, Operation};
 use reference::kernel::{Object, Store};
-use reference::numbers::{DONE, MAX_RIGHTS, MAX_WORD, MIN_BUFFER, MIN_SCRATCH, NEXT_PICKS};
-use reference::royalties::Bill;
+use reference::numbers::{DONE, MAX_RIGHTS, MAX_WORD, MIN_BUFFER, MIN_SCRATCH};
 use trials::encode::encode;
 use trials::random::Random;
-use trials::raw::RawStore;
 use trials::samples::Shape;
 
 const ROUNDS: usize = 301;
@@ -196,58 +193,6 @@ impl Case {
     }
 }
 
-/// A bill by each capability of each process, all done, and the plain withdraws of their sums.
-struct Bills {
-    name: String,
-    raw: RawStore,
-    bills: Vec<[u32; BILL_REQUEST]>,
-    withdraws: Vec<Request>,
-    /// The times of the list in nanoseconds, of bills and of withdraws.
-    times: [Vec<u64>; 2],
-}
-
-impl Bills {
-    fn new(objects: u32) -> Bills {
-        let store = processes(objects, 8, 512, Shape::Random);
-        let keys = store.objects.keys().flat_map(|name| keys(&store, *name));
-        let (count, total) = (NEXT_PICKS - 100, NEXT_PICKS + 100);
-        let bill = |key: Key| Bill { caller: key.name, key, count, picks: total - count };
-        let bills: Vec<Bill> = keys.map(bill).collect();
-        let withdraw = |bill: &Bill| Request::new(&bill.withdraw(bill.sum(total)), 0);
-        Bills {
-            name: format!("{objects} objects of 8"),
-            raw: encode(&store, &mut Random::new(3)),
-            bills: bills.iter().map(bill_request).collect(),
-            withdraws: bills.iter().map(withdraw).collect(),
-            times: Default::default(),
-        }
-    }
-
-    /// Times both; they go first by turns.
-    fn round(&mut self, buffer: &mut [u8], scratch: &mut [u16]) {
-        let Bills { raw, bills, withdraws, times, .. } = self;
-        let (mut billed, mut plain, mut reply) = (raw.clone(), raw.clone(), [0; BILL_REPLY]);
-        let first = times[0].len() % 2;
-        for which in [first, 1 - first] {
-            times[which].push(time(|| match which {
-                0 => bills.iter().for_each(|bill| {
-                    assert_eq!(kernel::bill(&mut billed, bill, &mut reply), DONE);
-                }),
-                _ => withdraws.iter().for_each(|withdraw| {
-                    assert_eq!(kernel::call(&mut plain, withdraw, buffer, scratch)[0], DONE);
-                }),
-            }));
-        }
-        assert!(billed == plain, "otherwise than the plain calls");
-    }
-
-    fn print(&self) {
-        let each = |times: &Vec<u64>| median(times) / self.bills.len() as f64;
-        let [bill, withdraw] = self.times.each_ref().map(each);
-        println!("{:36}{bill:>12.0}{withdraw:>12.0}{:>14.3}", self.name, bill / withdraw);
-    }
-}
-
 fn main() {
     let mut cases = Vec::new();
     kinds("4 objects of 8", &processes(4, 8, 512, Shape::Random), &mut cases);
@@ -260,11 +205,11 @@ fn main() {
             deletes(shape, n, &mut cases);
         }
     }
-    let mut bills = [4, 64].map(Bills::new);
     let (mut buffer, mut scratch) = (vec![0; MIN_BUFFER], vec![0; MIN_SCRATCH]);
     for _ in 0..ROUNDS {
-        cases.iter_mut().for_each(|case| case.round(&mut buffer, &mut scratch));
-        bills.iter_mut().for_each(|bills| bills.round(&mut buffer, &mut scratch));
+        for case in &mut cases {
+            case.round(&mut buffer, &mut scratch);
+        }
     }
     println!("medians of {ROUNDS} rounds, nanoseconds for each call, and ratios");
     println!("{:36}{:>12}{:>12}{:>14}", "calls", "step", "reference", "step/reference");
@@ -272,6 +217,4 @@ fn main() {
         let [step, reference] = case.medians();
         println!("{:36}{step:>12.0}{reference:>12.0}{:>14.2}", case.name, step / reference);
     }
-    println!("{:36}{:>12}{:>12}{:>14}", "bills, checked", "bill", "withdraw", "bill/withdraw");
-    bills.iter().for_each(Bills::print);
 }
