@@ -110,8 +110,9 @@ fn bill(count: u32, picks: u32) -> Bill {
     Bill { caller: BOSS.name, key: PURSE, count, picks }
 }
 
-/// Counts around the borders of the tariff and of the range.
-const COUNTS: [u32; 14] = [
+/// Counts around the borders of the tariff and of the range, and where the first credit after a
+/// border is due: at 10,033 a first step one pick longer would show, and at no border.
+const COUNTS: [u32; 18] = [
     0,
     1,
     24,
@@ -119,9 +120,13 @@ const COUNTS: [u32; 14] = [
     9_999,
     10_000,
     10_001,
+    10_033,
+    10_034,
     99_999,
     100_000,
     100_001,
+    100_049,
+    100_050,
     TOP,
     MAX_COUNT - 50,
     MAX_COUNT - 1,
@@ -148,38 +153,6 @@ fn bills_between_counts() {
     println!("{codes:?}");
     let expected = [DONE, TOO_LITTLE, COUNT_PASSES];
     assert!(codes.keys().eq(&expected), "{codes:?}");
-}
-
-/// Counts and picks with the answer and the sum, worked out by hand. At 10,033 a first step one pick
-/// longer would show, and at no count named in the paper.
-const EDGES: [(u32, u32, u32, u32); 16] = [
-    (0, 24, DONE, 0),
-    (24, 1, DONE, 1),
-    (0, 9_999, DONE, 399),
-    (0, 10_000, DONE, 400),
-    (0, 10_001, DONE, 400),
-    (0, 10_033, DONE, 400),
-    (10_033, 1, DONE, 1),
-    (0, 99_999, DONE, 3_099),
-    (0, 100_000, DONE, 3_100),
-    (0, 100_001, DONE, 3_100),
-    (0, 100_049, DONE, 3_100),
-    (100_049, 1, DONE, 1),
-    (0, 4_294_967_295, DONE, 85_900_445),
-    (100_001, 4_294_867_294, DONE, 85_897_345),
-    (4_294_967_295, 0, DONE, 0),
-    (4_294_967_295, 1, COUNT_PASSES, 0),
-];
-
-#[test]
-fn edges() {
-    let mut random = Random::new(47);
-    let pair = rich_hall(100_000_000, &mut random);
-    for (count, picks, code, sum) in EDGES {
-        let after = if code == DONE { count + picks } else { count };
-        let billed = pair.clone().bill(&bill(count, picks), &mut random);
-        assert_eq!(billed, Billed { code, count: after, sum }, "{count} {picks}");
-    }
 }
 
 /// A fault in a bill.

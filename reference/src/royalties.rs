@@ -34,13 +34,13 @@ pub fn charge_by_pick(count: u32) -> u32 {
 }
 
 /// The charge by a closed form: all picks at the last rate, with what the earlier picks cost above
-/// that.
+/// that. No pick costs a credit, so it fits as the count does.
 pub fn charge_at_once(count: u32) -> u32 {
     let up_to = |most: u32| u64::from(count.min(most));
     let above_next = u64::from(FIRST_RATE - NEXT_RATE) * up_to(FIRST_PICKS);
     let above_last = u64::from(NEXT_RATE - LAST_RATE) * up_to(NEXT_PICKS);
     let thousandths = u64::from(LAST_RATE) * u64::from(count) + above_last + above_next;
-    u32::try_from(thousandths / u64::from(CREDIT)).unwrap_or(u32::MAX)
+    (thousandths / u64::from(CREDIT)) as u32
 }
 
 /// "The charge for p picks in total is the whole part of the exact sum of thousandths divided by

@@ -127,12 +127,12 @@ fn affordable(count: u32, sum: u32) -> u32 {
 
 /// A bill with what the scenes look at.
 pub struct Tried {
-    pub bill: Bill,
+    bill: Bill,
     /// p + n and the sum; none where the count would pass.
-    pub total: Option<u32>,
-    pub sum: Option<u32>,
+    total: Option<u32>,
+    sum: Option<u32>,
     /// All conditions of the withdraw that hold, where there is no sum of one of 0.
-    pub held: Vec<Condition>,
+    held: Vec<Condition>,
     /// The most that could be withdrawn.
     purse: Option<u32>,
 }
