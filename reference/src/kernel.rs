@@ -103,7 +103,7 @@ pub fn unlocked(p1: u32, p2: u32, lockword: [u32; 2]) -> (u32, u32) {
     }
 }
 
-fn refuse_if(condition: bool, refusal: Refusal) -> Result<(), Refusal> {
+pub(crate) fn refuse_if(condition: bool, refusal: Refusal) -> Result<(), Refusal> {
     if condition {
         Err(refusal)
     } else {
@@ -200,7 +200,7 @@ fn check_arguments(call: &Call) -> Result<(), Refusal> {
     refuse_if(!(ranges && in_range(call.caller)), Refusal::OutOfRange)
 }
 
-fn in_range(name: Name) -> bool {
+pub(crate) fn in_range(name: Name) -> bool {
     name.volume <= MAX_VOLUME && name.serial <= MAX_SERIAL
 }
 
@@ -265,7 +265,7 @@ impl Store {
     }
 
     /// Refusals 5 and 6: the capability that is presented, which must have the right.
-    fn presented(&self, caller: Name, key: Key, right: u32) -> Result<Place, Refusal> {
+    pub(crate) fn presented(&self, caller: Name, key: Key, right: u32) -> Result<Place, Refusal> {
         let at = self.find(caller, key).ok_or(Refusal::NotFound)?;
         let rights = self.capability(at)?.rights;
         refuse_if(rights & right == 0, Refusal::RightMissing)?;
@@ -465,7 +465,7 @@ fn new_capability(capability: Key) -> Answer {
     Answer { capability, ..Answer::default() }
 }
 
-/// 02's question, which is free and changes nothing.
+/// 02's question about a window, which is free and changes nothing.
 impl Store {
     /// The start and end of the window "of a capability presented by a caller, under READ, with
     /// read's 1, 2, 3, 5 and 6".

@@ -3,11 +3,13 @@
 //!
 //! `numbers` has the papers' numbers by name; `call` and `kernel` are the calls and the store;
 //! `script` runs 01's scripts (`hall-reference`); `ledger` and `claims` check demand 3 beside a
-//! run. Above the store, `drive` is 02's loom drive, in exact rational arithmetic, `hooks` has its
-//! reads and writes by hook, and `royalties` its bills by the pick.
+//! run. `counting` is 02's count of passwords. Above the store, `drive` is its loom drive, in exact
+//! rational arithmetic, `hooks` has its reads and writes by hook, and `royalties` its bills by the
+//! pick.
 
 pub mod call;
 pub mod claims;
+pub mod counting;
 pub mod drive;
 pub mod hooks;
 pub mod kernel;

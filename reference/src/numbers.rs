@@ -139,4 +139,9 @@ pub mod right {
     pub const APPLY_LOCK: u32 = 1_024;
     pub const SEND: u32 = 2_048;
     pub const REVIVE: u32 = 4_096;
+    /// The thirteen.
+    pub const ALL: [u32; 13] = [
+        READ, WRITE, CAP_INFO, DERIVE_CAP, DELETE_CAP, RENAME_OBJ, WITHDRAW, DEPOSIT, SUSPEND,
+        RESUME, APPLY_LOCK, SEND, REVIVE,
+    ];
 }

@@ -1,4 +1,6 @@
-//! The process that calls in the tests of the products above the store: the fresh store's.
+//! The process that calls in the tests of questions and products: the fresh store's. Each test uses
+//! what it needs of it.
+#![allow(dead_code)]
 
 use reference::call::{Call, Key, Name, Operation};
 use reference::kernel::Store;
