@@ -1,5 +1,5 @@
 -- What the slices mean at one slot, in the amounts of the money total.
-use Prim.Native.Nat.{ℕ, _+_, _*_}
+use Prim.Native.Nat.{ℕ, _+_, _*_, _≤_}
 use mathlib.Core.Path.{_≡_, sym, ap, _∙_}
 use mathlib.Core.Logic.{_≢_}
 use mathlib.Core.Bool.{true, false}
@@ -7,6 +7,7 @@ use mathlib.Core.List.{List}
 use lib.Dec.{leb}
 use lib.ListN.{getD}
 use borrow.Author.Tests.{eq-eqb, ne-eqb}
+use Rattle.rules.specs.Limit as Limit
 use Rattle.rules.specs.Store.{Cap, noCap, sumsIn, allCash, allMasters, allBoxes, moneyIn}
 use Rattle.layout.specs.Layout as Layout
 use Rattle.layout.specs.Rows.{masterOf, flagOf, countOf, lengthOf, textIn, ownerOf, parentOf, moneyOf}
@@ -15,8 +16,9 @@ use Rattle.layout.specs.Sums.{sumsFrom}
 use Rattle.layout.specs.Fields.{TotalFits}
 use Rattle.layout.specs.Decides.{Decides}
 use Rattle.layout.proofs.Summing.{sums-are}
+use Rattle.layout.proofs.Adding.{Added, added-all}
 use Rattle.layout.proofs.Shown.{box-here, box-none, cap-none, parent-is, money-here, money-none}
-use Rattle.check_money.specs.Amount.{ofMaster, masterMoney}
+use Rattle.check_money.specs.Amount.{ofMaster, masterMoney, MastersAre}
 use Rattle.layout.proofs.Deciding.{at-most}
 
 module _ (b l w : List ℕ) (o : ℕ) where
@@ -68,3 +70,10 @@ module _ (b l w : List ℕ) (c m x : ℕ)
 
   pub total-decided : Decides (TotalFits b l w) (leb (c + m + x + getD w Layout.HOUSE 0) 4294967295)
   total-decided = rw total-is (at-most (moneyIn (view b l w)) 4294967295)
+
+-- ---- a loop that adds up the masters' moneywords
+
+pub masters-added : (b l w : List ℕ) (k total : ℕ) → k ≤ 0
+    → Added (masterMoney (view b l w)) Limit.word Limit.caps k total → MastersAre b l w total
+unfolding allMasters ofMaster
+masters-added b l w k total z a = added-all _ _ _ _ _ z a

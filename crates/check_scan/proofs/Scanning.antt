@@ -21,9 +21,9 @@ use Rattle.check_rows.proofs.Unique.{none-past, all-differ, none-same}
 use Rattle.check_passwords.proofs.Distinct.{passwords-unique, passwords-differ}
 use Rattle.check_scan.specs.Slots.{Slots}
 use Rattle.check_rows.proofs.Chaining.{slot-passed}
-use Rattle.check_money.proofs.Living.{money-free}
 use Rattle.check_scan.proofs.Listing.{all-free, free-above, next-entry}
-use Rattle.check_money.proofs.Adding.{Added, added-none, added-more, masters-added}
+use Rattle.layout.proofs.Adding.{Added, added-none, added-more}
+use Rattle.check_money.proofs.Living.{money-free, masters-added}
 
 -- the slots above i fit, are in the table, differ, and their masters add up to total, whatever the bytes
 pub record Passed (l w heads next : List ℕ) (i total : ℕ) : Type 0 where

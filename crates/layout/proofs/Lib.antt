@@ -13,6 +13,7 @@ pub mod Frame
 pub mod Kept
 pub mod Lengths
 pub mod Summing
+pub mod Adding
 -- where links change
 pub mod Linking
 pub mod Joining
@@ -27,3 +28,4 @@ pub mod Plain
 pub mod Asked
 -- answers that are right both ways
 pub mod Deciding
+pub mod Question

@@ -8,3 +8,4 @@ pub mod Fields
 pub mod Decides
 pub mod Sizes
 pub mod Sums
+pub mod Question

@@ -1,9 +1,8 @@
--- The two ways that the window question goes; then its refusals in the order in which the code tests them, and the window where none is met.
+-- The window question's refusals in the order in which the code tests them, and the window where none is met.
 use Prim.Native.Nat.{ℕ}
 use mathlib.Core.Path.{_≡_, sym, ap, _∙_}
 use mathlib.Core.Logic.{_≢_}
 use mathlib.Core.Bool.{true, false, _&&_}
-use mathlib.Core.List.{List}
 use native.Mathlib.Omega.{arith}
 use borrow.Author.Tests.{ne-eqb}
 use Rattle.rules.specs.Code as Code
@@ -15,27 +14,13 @@ use Rattle.rules.specs.Password.{presented}
 use Rattle.rules.specs.Refusals.{_when_, first, nameFits, running, showing}
 use Rattle.rules.specs.Questions as Questions
 use Rattle.rules.specs.Questions.{windowSlot, windowRefuses, unwindowed, windowedBy, windowAsked}
-use Rattle.layout.specs.View.{view}
-use Rattle.layout.specs.WellFormed.{WellFormed}
-use Rattle.call_steps.specs.declared.request.Name.{Name}
-use Rattle.call_steps.specs.declared.request.Capability.{Capability}
-use Rattle.call_steps.specs.Request.{nameOf, capabilityOf}
 use Rattle.call_steps.proofs.Admitting.{showing-none}
 use Rattle.question_window.specs.declared.Windowed.{Windowed}
-use Rattle.question_window.specs.Asks.{windowedOf, Asks}
+use Rattle.question_window.specs.Asks.{windowedOf}
 
-module _ {b l w : List ℕ} {caller : Name} {x : Capability} {r : Windowed} where
-  pub asks-unsound : (WellFormed b l w → ⊥) → windowedOf r ≡ unwindowed Code.illFormed → Asks b l w caller x r
-  unfolding unwindowed
-  asks-unsound bad e = record {
-    unsound = λ _. e;
-    asks = λ f. absurd (bad f);
-    sound = λ nz. absurd (nz (ap (λ (a : Questions.Windowed). a .code) e));
-  }
-
-  pub asks-formed : WellFormed b l w → windowedOf r ≡ windowAsked (view b l w) (nameOf caller) (capabilityOf x)
-      → Asks b l w caller x r
-  asks-formed f e = record { unsound = λ bad. absurd (bad f); asks = λ _. e; sound = λ _. f }
+pub refused-one : (r : Windowed) → windowedOf r ≡ unwindowed Code.illFormed → r .code ≡ Code.illFormed
+unfolding unwindowed
+refused-one r e = ap (λ (a : Questions.Windowed). a .code) e
 
 module _ (s : State) (caller : Store.Name) (x : Call.Capability) where
   asked-refused : (n : ℕ) → first (windowRefuses s caller x) ≡ n → n ≢ Code.done → windowAsked s caller x ≡ unwindowed n

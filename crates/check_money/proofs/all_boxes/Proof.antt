@@ -3,7 +3,7 @@ use Prim.Native.Nat.{ℕ, _*_}
 use mathlib.Core.List.{List}
 use native.Mathlib.Omega.{arith}
 use borrow.Author.Needs.{needs}
-use Rattle.check_money.proofs.Adding.{Added, added-none, added-more, added-all}
+use Rattle.layout.proofs.Adding.{Added, added-none, added-more, added-all}
 use Rattle.rules.specs.Store.{allBoxes, sumsIn}
 use Rattle.layout.specs.View.{view}
 use Rattle.check_money.proofs.all_boxes.Statement.{statement}

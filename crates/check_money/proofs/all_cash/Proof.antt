@@ -1,7 +1,7 @@
 -- `all_cash` has added up the cash of the slots that it passed.
 use native.Mathlib.Omega.{arith}
 use borrow.Author.Needs.{needs}
-use Rattle.check_money.proofs.Adding.{Added, added-none, added-more, added-all}
+use Rattle.layout.proofs.Adding.{Added, added-none, added-more, added-all}
 use Rattle.rules.specs.Store.{allCash}
 use Rattle.layout.specs.View.{view}
 use Rattle.check_money.proofs.all_cash.Statement.{statement}

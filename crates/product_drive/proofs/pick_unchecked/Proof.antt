@@ -3,7 +3,7 @@ use mathlib.Core.Path.{_≡_, sym, _∙_}
 use mathlib.Core.Bool.{true}
 use borrow.Author.Needs.{needs}
 use Rattle.kernel_call.proofs.Calling.{calls-step}
-use Rattle.question_window.proofs.Asking.{asks-formed}
+use Rattle.layout.proofs.Question.{asked-formed}
 use Rattle.product_drive.specs.Drive.{fits}
 use Rattle.product_drive.proofs.Ranges.{repeat-fits}
 use Rattle.product_drive.proofs.Rows.{read-holds}
@@ -75,7 +75,7 @@ returns c =
     let t = asked u in
     let a = start (t .before) .args in
     pick-read (a .caller) (a .x) (a .repeat) (a .place) _ (fitting t) (u .before .window-of .result) (u .unread .result) (u .unread .ensures)
-    _ _ _ _ _ _ _ _ _ (asks-formed (start (t .before) .pre) (u .before .window-of .ensures)) (r .before .if2 .taken) _ (r .row-request .ensures) _ (calls-step (start (t .before) .pre) (m .step .ensures)) (c .before .scratch2 .given) (c .by .ensures)
+    _ _ _ _ _ _ _ _ _ (asked-formed (start (t .before) .pre) (u .before .window-of .ensures)) (r .before .if2 .taken) _ (r .row-request .ensures) _ (calls-step (start (t .before) .pre) (m .step .ensures)) (c .before .scratch2 .given) (c .by .ensures)
 
 refused-requires : tie.Need-refused-requires
 refused-requires c κs = search needs
@@ -95,7 +95,7 @@ returns-2 c =
     let t = asked u in
     let a = start (t .before) .args in
     pick-unread (a .caller) (a .x) (a .repeat) (a .place) _ (fitting t) (u .before .window-of .result) (u .unread .result) (u .unread .ensures)
-    _ (asks-formed (start (t .before) .pre) (u .before .window-of .ensures)) (c .before .if2 .left) (c .refused .ensures)
+    _ (asked-formed (start (t .before) .pre) (u .before .window-of .ensures)) (c .before .if2 .left) (c .refused .ensures)
 
 refused-requires-2 : tie.Need-refused-requires-2
 refused-requires-2 c κs = search needs

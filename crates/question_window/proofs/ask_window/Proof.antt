@@ -2,7 +2,8 @@
 use borrow.Author.Needs.{needs}
 use Rattle.layout.proofs.Deciding.{refuted}
 use Rattle.layout.proofs.Plain.{plain}
-use Rattle.question_window.proofs.Asking.{asks-unsound, asks-formed}
+use Rattle.layout.proofs.Question.{asked-unsound, asked-formed}
+use Rattle.question_window.proofs.Asking.{refused-one}
 use Rattle.question_window.proofs.ask_window.Statement.{statement}
 use Rattle.question_window.proofs.ask_window.Tie as tie
 
@@ -13,7 +14,7 @@ window-of-requires : tie.Need-window-of-requires
 window-of-requires c κs = plain (c .before .check .ensures .sound (c .if1 .taken))
 
 returns : tie.Need-returns
-returns c = asks-formed (c .before .before .check .ensures .sound (c .before .if1 .taken)) (c .window-of .ensures)
+returns c = asked-formed (c .before .before .check .ensures .sound (c .before .if1 .taken)) (c .window-of .ensures)
 
 refuse-requires : tie.Need-refuse-requires
 refuse-requires c κs = search needs
@@ -21,7 +22,7 @@ refuse-requires c κs = search needs
 returns-2 : tie.Need-returns-2
 returns-2 c =
     let e = c .before in
-    asks-unsound (refuted (e .before .check .ensures) (e .if1 .left)) (c .refuse .ensures)
+    asked-unsound (refuted (e .before .check .ensures) (e .if1 .left)) (c .refuse .ensures) (refused-one _ (c .refuse .ensures))
 
 pub ask-window-spec : {M : Type 1} → statement M
 ask-window-spec =

@@ -5,7 +5,8 @@ use native.Mathlib.Omega.{arith}
 use borrow.Author.Needs.{needs}
 use Rattle.layout.specs.View.{view}
 use Rattle.check_money.specs.Amount.{masterMoney}
-use Rattle.check_money.proofs.Adding.{Added, added-none, added-more, masters-added}
+use Rattle.layout.proofs.Adding.{Added, added-none, added-more}
+use Rattle.check_money.proofs.Living.{masters-added}
 use Rattle.script_answers.proofs.ends.all_masters.Statement.{statement}
 use Rattle.script_answers.proofs.ends.all_masters.Tie as tie
 

@@ -1,17 +1,10 @@
--- A loop that adds up: what it has and what is left make the whole sum.
+-- A loop that adds up over slots, from the last down: what it has and what is left make the whole sum.
 use Prim.Native.Nat.{ℕ, zero, suc, _+_, _*_, _-_, _≤_}
 use mathlib.Core.Path.{_≡_, refl, ap}
-use mathlib.Core.List.{List}
 use native.Mathlib.Nat.{mul-suc}
 use native.Mathlib.Omega.{arith}
 use Rattle.rules.specs.Slots.{sumOver}
-use Rattle.rules.specs.Limit as Limit
-use Rattle.rules.specs.Store.{allMasters}
-use Rattle.layout.specs.View.{view}
 use Rattle.layout.specs.Sums.{Amount}
-use Rattle.check_money.specs.Amount.{ofMaster, masterMoney, MastersAre}
-
--- ---- over slots, from the last down
 
 -- total is the sum of f over the slots above k of 1 to n, each at most `most`
 pub record Added (f : ℕ → ℕ) (most n k total : ℕ) : Type 0 where
@@ -48,9 +41,3 @@ module _ (f : ℕ → ℕ) (most n : ℕ) where
   added-all k total z a =
       let e : k ≡ 0 = omega arith in
       record { is = omega (arith, ap (λ i. sumOver i f) e, sum-none f); small = omega arith }
-
--- of the masters' moneywords
-pub masters-added : (b l w : List ℕ) (k total : ℕ) → k ≤ 0
-    → Added (masterMoney (view b l w)) Limit.word Limit.caps k total → MastersAre b l w total
-unfolding allMasters ofMaster
-masters-added b l w k total z a = added-all _ _ _ _ _ z a

@@ -1,0 +1,17 @@
+-- The two ways that a question goes: the store is not well formed, or the rules answer.
+use Prim.Native.Nat.{ℕ}
+use mathlib.Core.Path.{_≡_}
+use mathlib.Core.List.{List}
+use Rattle.rules.specs.Code as Code
+use Rattle.rules.specs.Store.{State}
+use Rattle.layout.specs.View.{view}
+use Rattle.layout.specs.WellFormed.{WellFormed}
+use Rattle.layout.specs.Question.{Asked}
+
+module _ {A : Type 0} {b l w : List ℕ} {refused : ℕ → A} {rules : State → A} {code : ℕ} {r : A} where
+  pub asked-unsound : (WellFormed b l w → ⊥) → r ≡ refused Code.illFormed → code ≡ Code.illFormed
+      → Asked b l w refused rules code r
+  asked-unsound bad e one = record { unsound = λ _. e; asks = λ f. absurd (bad f); sound = λ nz. absurd (nz one) }
+
+  pub asked-formed : WellFormed b l w → r ≡ rules (view b l w) → Asked b l w refused rules code r
+  asked-formed f e = record { unsound = λ bad. absurd (bad f); asks = λ _. e; sound = λ _. f }
