@@ -2,12 +2,12 @@
 use Prim.Native.Nat.{ℕ, zero, suc, _+_, _≤_, _<_}
 use mathlib.Core.Path.{_≡_, refl, sym, ap, _∙_, subst}
 use mathlib.Core.Logic.{_≢_}
-use mathlib.Core.Bool.{Bool, true, false, false≢true}
+use mathlib.Core.Bool.{Bool, true, false, not, _&&_, false≢true}
 use native.Mathlib.Omega.{arith}
 use lib.Dec.{eqb}
 use borrow.Author.Tests.{eqb-true, eqb-false, eq-eqb, ne-eqb}
 use Rattle.rules.specs.Slots.{at, find, some, sumOver, one, countOver}
-use Rattle.rules.proofs.Tests.{by-eq, refuted, not-is-false, pick-yes, pick-not, pick-by}
+use Rattle.rules.proofs.Tests.{by-bool, by-eq, refuted, not-is-false, pick-yes, pick-not, pick-by}
 
 -- ---- one slot changed
 
@@ -117,6 +117,41 @@ pub sum-at : {A : Type 0} (n : ℕ) (m : A → ℕ) (f : ℕ → A) (i : ℕ) (v
 sum-at n m f i v a b =
     sum-but n (λ j. m (f j)) (λ j. m (at f i v j)) i a b (λ j h. ap m (at-else f i v j h))
     ∙ ap (λ x. sumOver n (λ j. m (f j)) + m x) (at-here f i v)
+
+-- ---- where at most one slot passes a test, what is found counts as the sum over slots
+
+find-top : (n : ℕ) (t : ℕ → Bool) → t (suc n) ≡ true → find (suc n) t ≡ suc n
+unfolding find
+find-top n t e = pick-yes (t (suc n)) (suc n) (find n t) e
+
+find-below : (n : ℕ) (t : ℕ → Bool) → t (suc n) ≡ false → find (suc n) t ≡ find n t
+unfolding find
+find-below n t e = pick-not (t (suc n)) (suc n) (find n t) e
+
+-- some slot, and it passes
+abbrev past : (ℕ → Bool) → ℕ → Bool
+past h k = not (eqb k 0) && h k
+
+past-some : (h : ℕ → Bool) (k : ℕ) → past h (suc k) ≡ h (suc k)
+past-some h k = ap (λ b. not b && h (suc k)) (ne-eqb (suc k) 0 (λ e. omega arith))
+
+pub find-counts : (n : ℕ) (t h : ℕ → Bool) → ((i j : ℕ) → t i ≡ true → t j ≡ true → i ≡ j)
+    → one (past h (find n t)) ≡ countOver n (λ i. t i && h i)
+unfolding find one countOver sumOver
+find-counts zero t h u = refl
+find-counts (suc n) t h u = by-bool (t (suc n))
+    (λ e.
+    let alone : sumOver n (λ i. one (t i && h i)) ≡ 0 = sum-zero n (λ i. one (t i && h i)) (λ i a b.
+    ap (λ x. one (x && h i)) (refuted (t i) (λ q. let d : i ≡ suc n = u i (suc n) q e in omega arith))) in
+    let here : one (t (suc n) && h (suc n)) ≡ one (h (suc n)) = ap (λ x. one (x && h (suc n))) e in
+    let top : one (past h (find (suc n) t)) ≡ one (h (suc n)) =
+    ap (λ k. one (past h k)) (find-top n t e) ∙ ap one (past-some h n) in
+    omega arith)
+    (λ e.
+    let here : one (t (suc n) && h (suc n)) ≡ 0 = ap (λ x. one (x && h (suc n))) e in
+    let top : one (past h (find (suc n) t)) ≡ one (past h (find n t)) = ap (λ k. one (past h k)) (find-below n t e) in
+    let below : one (past h (find n t)) ≡ sumOver n (λ i. one (t i && h i)) = find-counts n t h u in
+    omega arith)
 
 -- ---- a free slot: where not all of 1 to n pass, one does not
 

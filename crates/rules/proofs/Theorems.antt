@@ -1,9 +1,9 @@
 -- The theorems about the rules: what specs/Theorems.antt states, and demand 3.
-use mathlib.Core.Path.{subst}
+use mathlib.Core.Path.{subst, _∙_}
 use mathlib.Core.List.{_∷_}
 use Rattle.rules.specs.Demand.{Now, start, run, Legal, Demand3}
 use Rattle.rules.specs.Theorems.{FreshValid, ValidKept, MoneyKept, RefusedLeaves, AnswerFixed, ChoiceExists}
-use Rattle.rules.specs.Theorems.{LastFree, RunExists, MailWakes, ReadRefuses, ReadInside}
+use Rattle.rules.specs.Theorems.{LastFree, RunExists, MailWakes, ReadRefuses, ReadInside, PasswordsCaps, AbsentNone}
 use Rattle.rules.proofs.Answers.{refused-rule, answer-same}
 use Rattle.rules.proofs.Steps.{keep-step}
 use Rattle.rules.proofs.Fresh.{valid-fresh}
@@ -11,6 +11,7 @@ use Rattle.rules.proofs.Claims.{claims}
 use Rattle.rules.proofs.Choices.{choose, last-open}
 use Rattle.rules.proofs.Awake.{run-awake, awake-fresh}
 use Rattle.rules.proofs.Asking.{read-refused, read-inside}
+use Rattle.rules.proofs.Counting.{opening-holding, none-held}
 use Rattle.rules.proofs.Runs.{valid-step, good-start, good-run, legal-front, ended-next, run-of}
 
 pub fresh-valid : FreshValid
@@ -56,6 +57,14 @@ read-refuses s c h r fit pays = read-refused s c r fit pays h
 pub read-in-window : ReadInside
 unfolding ReadInside
 read-in-window s c h r told inside = read-inside s c r told inside h
+
+pub passwords-caps : PasswordsCaps
+unfolding PasswordsCaps
+passwords-caps s me n right v = opening-holding s me n right (v .formed)
+
+pub absent-none : AbsentNone
+unfolding AbsentNone
+absent-none s me n right v z = opening-holding s me n right (v .formed) ∙ none-held s me n right (v .formed) z
 
 -- the claims follow from the invariant at the end of the list, what a done delete ended from the invariant before it
 pub demand-3 : Demand3

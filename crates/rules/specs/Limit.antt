@@ -60,6 +60,10 @@ top = 2147483648
 abbrev pub word : ℕ
 word = 4294967295
 
+-- 02, CR 8: "the 2 to the power 64 passwords": each half is below this
+abbrev pub half : ℕ
+half = 4294967296
+
 -- 02, CR 1: the limit of a derive line that has none, which "behaves as before"
 abbrev pub defaultLimit : ℕ
 defaultLimit = word

@@ -5,6 +5,7 @@ use mathlib.Core.List.{List, [], _∷_}
 use lib.Dec.{eqb}
 use lib.ListN.{getD}
 use lib.Bits.{bitAnd}
+use Rattle.rules.specs.Slots.{mem}
 
 -- ---- rights add up, 0 to 8191
 
@@ -46,6 +47,27 @@ SEND = 2048
 
 abbrev pub REVIVE : ℕ
 REVIVE = 4096
+
+unfoldable pub thirteen : List ℕ
+thirteen =
+    READ
+    ∷ WRITE
+    ∷ «CAP_INFO»
+    ∷ «DERIVE_CAP»
+    ∷ «DELETE_CAP»
+    ∷ «RENAME_OBJ»
+    ∷ WITHDRAW
+    ∷ DEPOSIT
+    ∷ SUSPEND
+    ∷ RESUME
+    ∷ «APPLY_LOCK»
+    ∷ SEND
+    ∷ REVIVE
+    ∷ []
+
+-- it is one of the thirteen
+unfoldable pub isRight : ℕ → Bool
+isRight right = mem right thirteen
 
 -- the rights hold this right
 unfoldable pub has : ℕ → ℕ → Bool
@@ -118,5 +140,5 @@ presents o = not (eqb (asked o) 0)
 
 -- a theorem that computes with this file's definitions says `unfolding` and this name
 unfoldable pub computes : Unit {0}
-unfolding has both op fees feeOf asked presents
+unfolding thirteen isRight has both op fees feeOf asked presents
 computes = tt

@@ -2,18 +2,20 @@
 use Prim.Native.Nat.{ℕ, _≤_, _<_}
 use mathlib.Core.Path.{_≡_}
 use mathlib.Core.Logic.{_≢_}
-use mathlib.Core.Bool.{true, false, not}
+use mathlib.Core.Bool.{true, false, not, _&&_}
 use mathlib.Core.List.{List, [], _∷_, _++_, map}
 use Rattle.rules.specs.Code as Code
-use Rattle.rules.specs.Store.{Password, State, moneyIn, fresh}
+use Rattle.rules.specs.Limit as Limit
+use Rattle.rules.specs.Slots.{countOver}
+use Rattle.rules.specs.Store.{Name, Password, State, sameName, capLives, objectNamed, moneyIn, fresh}
 use Rattle.rules.specs.Valid.{Valid}
 use Rattle.rules.specs.Call.{Call, Outcome, Choice, code}
-use Rattle.rules.specs.Rights.{op, read, feeOf}
+use Rattle.rules.specs.Rights.{has, op, read, feeOf}
 use Rattle.rules.specs.Refusals.{Refusal, _when_, first, argumentsFit, caller}
 use Rattle.rules.specs.Changes.{setTerminated}
 use Rattle.rules.specs.Calls.{liesIn}
 use Rattle.rules.specs.Rule.{paid, rule, isDone}
-use Rattle.rules.specs.Questions.{windowSlot, windowRefuses, windowAsked}
+use Rattle.rules.specs.Questions.{windowSlot, windowRefuses, windowAsked, opening}
 use Rattle.rules.specs.Demand.{Words, FreshWords, Open, Allowed, Step, Legal, start, run}
 use Rattle.rules.specs.Script.{lastFree}
 
@@ -98,3 +100,20 @@ ReadInside = (s : State) (c : Call) (h : Choice) → op (c .number) ≡ read
     → liesIn (c .range) (windowAsked s (c .caller) (c .presented) .window) ≡ true
     → rule s c h .answer .code ≢ Code.done
     → rule s c h .answer .code ≤ Code.cannotPay
+
+-- ---- 02, CR 8: "The definition counts passwords; the program counts capabilities. The two are proved equal for every
+-- well-formed store."
+
+-- how many capabilities of the object named hold the right
+unfoldable pub holding : State → Name → ℕ → ℕ
+holding s object right = countOver Limit.caps (λ i.
+    capLives s i && sameName (s .object (s .cap i .object) .name) object && has (s .cap i .rights) right)
+
+unfoldable pub PasswordsCaps : Type 0
+PasswordsCaps = (s : State) (me : ℕ) (object : Name) (right : ℕ) → Valid s
+    → opening s me object right ≡ holding s object right
+
+-- "After that an absent object gives 0."
+unfoldable pub AbsentNone : Type 0
+AbsentNone = (s : State) (me : ℕ) (object : Name) (right : ℕ) → Valid s → objectNamed s object ≡ 0
+    → opening s me object right ≡ 0

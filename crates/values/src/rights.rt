@@ -1,6 +1,6 @@
 // Rights add up, 0 to 8191.
 ghost use mathlib.Core.Path.{_≡_};
-ghost use Rattle.rules.specs.Rights.{has, both, asked, op};
+ghost use Rattle.rules.specs.Rights.{isRight, has, both, asked, op};
 
 pub struct Rights(pub u16);
 
@@ -33,6 +33,20 @@ impl Rights {
 
     pub const REVIVE: Rights = Rights(4096);
 
+    // The number is one of the thirteen rights.
+    pub fn is_right(number: u32) -> bool
+        ensures { λ r. ⌜ r ≡ isRight number ⌝ }
+    {
+        let mut i: usize = 0;
+        while i < 13 {
+            if THIRTEEN[i] == number {
+                return true;
+            }
+            i += 1;
+        }
+        false
+    }
+
     // These rights hold the right.
     pub fn has(self, right: Rights) -> bool
         ensures { λ r. ⌜ r ≡ has (self .0) (right .0) ⌝ }
@@ -61,6 +75,22 @@ impl Rights {
         Rights(ASKED[at])
     }
 }
+
+const THIRTEEN: [u32; 13] = [
+    Rights::READ.0 as u32,
+    Rights::WRITE.0 as u32,
+    Rights::CAP_INFO.0 as u32,
+    Rights::DERIVE_CAP.0 as u32,
+    Rights::DELETE_CAP.0 as u32,
+    Rights::RENAME_OBJ.0 as u32,
+    Rights::WITHDRAW.0 as u32,
+    Rights::DEPOSIT.0 as u32,
+    Rights::SUSPEND.0 as u32,
+    Rights::RESUME.0 as u32,
+    Rights::APPLY_LOCK.0 as u32,
+    Rights::SEND.0 as u32,
+    Rights::REVIVE.0 as u32,
+];
 
 // In call order, as the fees.
 const ASKED: [u16; 16] = [
