@@ -43,7 +43,7 @@ fn present(bytes: &[u8], links: &[u16], words: &[u32], me: usize, x: Capability)
 }
 
 // The capability in slot k holds the right.
-fn right_held(links: &[u16], k: usize, right: Rights) -> bool
+pub fn right_held(links: &[u16], k: usize, right: Rights) -> bool
     requires { ⌜ length (now links) ≡ Layout.LINKS ⌝ ∗ ⌜ Held (now links) k ⌝ }
     ensures { λ r. ⌜ ((b w : List ℕ) → r ≡ has (view b (now (links .entry)) w .cap k .rights) (right .0)) ⌝ }
 {
