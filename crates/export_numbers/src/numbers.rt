@@ -3,7 +3,7 @@ ghost use mathlib.Core.Path.{_≡_};
 ghost use Prim.Native.Nat.{_+_, _≤_};
 ghost use lib.ListN.{length};
 ghost use Rattle.layout.specs.Decides.{Decides};
-ghost use Rattle.exports.specs.Numbers.{nameAt, capabilityAt, windowAt, Lengths, Unfit};
+ghost use Rattle.export_numbers.specs.Numbers.{nameAt, capabilityAt, windowAt, Lengths, Unfit};
 use call_steps::request::Capability;
 use call_steps::request::Name;
 use values::code::ILL_FORMED;
@@ -11,7 +11,7 @@ use values::code::OUT_OF_RANGE;
 use values::window::Window;
 
 // The name whose volume is number i.
-pub(crate) fn name_at(numbers: &[u32], i: usize) -> Name
+pub fn name_at(numbers: &[u32], i: usize) -> Name
     requires { ⌜ i + 2 ≤ length (now numbers) ⌝ }
     ensures { λ r. ⌜ r ≡ nameAt (now (numbers .entry)) i ⌝ }
 {
@@ -22,7 +22,7 @@ pub(crate) fn name_at(numbers: &[u32], i: usize) -> Name
 }
 
 // The capability whose name starts at number i.
-pub(crate) fn capability_at(numbers: &[u32], i: usize) -> Capability
+pub fn capability_at(numbers: &[u32], i: usize) -> Capability
     requires { ⌜ i + 4 ≤ length (now numbers) ⌝ }
     ensures { λ r. ⌜ r ≡ capabilityAt (now (numbers .entry)) i ⌝ }
 {
@@ -33,7 +33,7 @@ pub(crate) fn capability_at(numbers: &[u32], i: usize) -> Capability
 }
 
 // The window, or range, whose start is number i.
-pub(crate) fn window_at(numbers: &[u32], i: usize) -> Window
+pub fn window_at(numbers: &[u32], i: usize) -> Window
     requires { ⌜ i + 2 ≤ length (now numbers) ⌝ }
     ensures { λ r. ⌜ r ≡ windowAt (now (numbers .entry)) i ⌝ }
 {
@@ -44,7 +44,7 @@ pub(crate) fn window_at(numbers: &[u32], i: usize) -> Window
 }
 
 // A request and a reply have the lengths that they are to have.
-pub(crate) fn fits(request: usize, asks: usize, reply: usize, tells: usize) -> bool
+pub fn fits(request: usize, asks: usize, reply: usize, tells: usize) -> bool
     ensures { λ r. ⌜ Decides (Lengths asks tells request reply) r ⌝ }
 {
     if request == asks {
@@ -54,7 +54,7 @@ pub(crate) fn fits(request: usize, asks: usize, reply: usize, tells: usize) -> b
 }
 
 // The answer where they have not, the store looked at first.
-pub(crate) fn unfit(bytes: &[u8], links: &[u16], words: &[u32]) -> u32
+pub fn unfit(bytes: &[u8], links: &[u16], words: &[u32]) -> u32
     ensures { λ r. ⌜ Unfit (now (bytes .entry)) (now (links .entry)) (now (words .entry)) r ⌝ }
 {
     if kernel_check::check(bytes, links, words) {

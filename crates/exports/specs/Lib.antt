@@ -1,5 +1,5 @@
--- Requests and replies as they cross to C, and what each exported function promises.
-pub mod Numbers
+-- What each exported function promises.
+pub mod Crossing
 pub mod Store
 pub mod Question
 pub mod Drive

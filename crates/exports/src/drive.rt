@@ -1,59 +1,19 @@
 // The loom drive.
-ghost use mathlib.Core.Path.{_≡_};
 ghost use mathlib.Core.List.{[]};
-ghost use lib.ListN.{length};
 ghost use Rattle.layout.specs.WellFormed.{WellFormed};
 ghost use Rattle.kernel_step.specs.Slices.{slices};
-ghost use Rattle.exports.specs.Drive.{requestLength, replyLength, repeatOf, placeOf, numbersOf, Exported};
-use crate::numbers::capability_at;
-use crate::numbers::fits;
-use crate::numbers::name_at;
+ghost use Rattle.exports.specs.Drive.{Exported};
+use export_numbers::drive::REPLY;
+use export_numbers::drive::REQUEST;
+use export_numbers::drive::place_of;
+use export_numbers::drive::put_picked;
+use export_numbers::drive::repeat_of;
+use export_numbers::numbers::capability_at;
+use export_numbers::numbers::fits;
+use export_numbers::numbers::name_at;
 use product_drive::pick;
 use product_drive::pick_unchecked;
-use product_drive::picked::Picked;
-use product_drive::repeat::Place;
-use product_drive::repeat::Repeat;
 use values::code::OUT_OF_RANGE;
-
-// How many numbers a request and a reply have.
-const REQUEST: usize = 11;
-
-const REPLY: usize = 5;
-
-// N, C and W of a request.
-fn repeat_of(numbers: &[u32]) -> Repeat
-    requires { ⌜ length (now numbers) ≡ requestLength ⌝ }
-    ensures { λ r. ⌜ r ≡ repeatOf (now (numbers .entry)) ⌝ }
-{
-    Repeat {
-        picks: numbers[6],
-        counts: numbers[7],
-        row: numbers[8],
-    }
-}
-
-// The next pick and the steps so far of a request.
-fn place_of(numbers: &[u32]) -> Place
-    requires { ⌜ length (now numbers) ≡ requestLength ⌝ }
-    ensures { λ r. ⌜ r ≡ placeOf (now (numbers .entry)) ⌝ }
-{
-    Place {
-        next: numbers[9],
-        steps: numbers[10],
-    }
-}
-
-// The 5 numbers of a reply.
-fn put_picked(r: Picked, numbers: &mut [u32])
-    requires { ⌜ length (now numbers) ≡ replyLength ⌝ }
-    ensures { λ _. ⌜ now (numbers .exit) ≡ numbersOf r ⌝ }
-{
-    numbers[0] = r.code;
-    numbers[1] = r.step;
-    numbers[2] = r.place.next;
-    numbers[3] = r.place.steps;
-    numbers[4] = r.count;
-}
 
 // Makes a pick: 11 numbers of a request, 5 of the reply. Where either slice has another length, nothing is written, and
 // it is 2.

@@ -2,7 +2,6 @@
 // cross as slices of 32-bit numbers.
 pub mod drive;
 pub mod hooks;
-mod numbers;
 pub mod question;
 pub mod royalties;
 pub mod store;

@@ -1,30 +1,15 @@
 // Royalties by the pick.
-ghost use mathlib.Core.Path.{_≡_};
 ghost use mathlib.Core.List.{[]};
-ghost use lib.ListN.{length};
 ghost use Rattle.kernel_step.specs.Slices.{slices};
-ghost use Rattle.exports.specs.Royalties.{replyLength, numbersOf, Exported};
-use crate::numbers::capability_at;
-use crate::numbers::fits;
-use crate::numbers::name_at;
-use crate::numbers::unfit;
+ghost use Rattle.exports.specs.Royalties.{Exported};
+use export_numbers::numbers::capability_at;
+use export_numbers::numbers::fits;
+use export_numbers::numbers::name_at;
+use export_numbers::numbers::unfit;
+use export_numbers::royalties::REPLY;
+use export_numbers::royalties::REQUEST;
+use export_numbers::royalties::put_billed;
 use product_royalties::bill;
-use product_royalties::billed::Billed;
-
-// How many numbers a request and a reply have.
-const REQUEST: usize = 8;
-
-const REPLY: usize = 3;
-
-// The 3 numbers of a reply.
-fn put_billed(r: Billed, numbers: &mut [u32])
-    requires { ⌜ length (now numbers) ≡ replyLength ⌝ }
-    ensures { λ _. ⌜ now (numbers .exit) ≡ numbersOf r ⌝ }
-{
-    numbers[0] = r.code;
-    numbers[1] = r.count;
-    numbers[2] = r.sum;
-}
 
 // Makes a bill: 8 numbers of a request, 3 of the reply. Where either slice has another length, nothing is written, and it
 // is 1 on a store that is not well formed, else 2.

@@ -4,23 +4,16 @@ ghost use mathlib.Core.List.{_∷_, []};
 ghost use Rattle.layout.specs.WellFormed.{WellFormed};
 ghost use Rattle.layout.specs.Decides.{Decides};
 ghost use Rattle.values.specs.Words.{passwordOf};
-ghost use lib.ListN.{length};
 ghost use Rattle.kernel_fresh.specs.Fresh.{Fresh};
 ghost use Rattle.kernel_step.specs.Slices.{slices};
-ghost use Rattle.exports.specs.Store.{requestLength, replyLength, requestOf, numbersOf, Exported};
-use crate::numbers::capability_at;
-use crate::numbers::fits;
-use crate::numbers::name_at;
-use crate::numbers::unfit;
-use crate::numbers::window_at;
-use call_steps::request::Reply;
-use call_steps::request::Request;
+ghost use Rattle.exports.specs.Store.{Exported};
+use export_numbers::call::REPLY;
+use export_numbers::call::REQUEST;
+use export_numbers::call::put_reply;
+use export_numbers::call::request_of;
+use export_numbers::numbers::fits;
+use export_numbers::numbers::unfit;
 use values::code::OUT_OF_RANGE;
-
-// How many numbers a request and a reply have.
-const REQUEST: usize = 20;
-
-pub(crate) const REPLY: usize = 9;
 
 // Whether the store is well formed.
 #[no_mangle]
@@ -44,45 +37,6 @@ pub extern "C" fn store_fresh(
         (now (bytes .exit)) (now (links .exit)) (now (words .exit)) r ⌝ }
 {
     kernel_fresh::fresh(supply, [p1, p2], bytes, links, words)
-}
-
-// The 20 numbers of a request.
-fn request_of(numbers: &[u32]) -> Request
-    requires { ⌜ length (now numbers) ≡ requestLength ⌝ }
-    ensures { λ r. ⌜ r ≡ requestOf (now (numbers .entry)) ⌝ }
-{
-    Request {
-        number: numbers[0],
-        caller: name_at(numbers, 1),
-        presented: capability_at(numbers, 3),
-        name: name_at(numbers, 7),
-        size: numbers[9],
-        flag: numbers[10],
-        rights: numbers[11],
-        drawn: [numbers[12], numbers[13]],
-        range: window_at(numbers, 14),
-        sum: numbers[16],
-        lock: [numbers[17], numbers[18]],
-        limit: numbers[19],
-    }
-}
-
-// The 9 numbers of a reply.
-pub(crate) fn put_reply(r: Reply, numbers: &mut [u32])
-    requires { ⌜ length (now numbers) ≡ replyLength ⌝ }
-    ensures { λ _. ⌜ now (numbers .exit) ≡ numbersOf r ⌝ }
-{
-    let capability = r.capability;
-    let password = capability.password;
-    numbers[0] = r.code;
-    numbers[1] = capability.name.volume;
-    numbers[2] = capability.name.serial;
-    numbers[3] = password[0];
-    numbers[4] = password[1];
-    numbers[5] = r.length;
-    numbers[6] = r.moneyword;
-    numbers[7] = r.sum;
-    numbers[8] = r.count;
 }
 
 // Makes a call: 20 numbers of a request, 9 of the reply. Where either slice has another length, nothing is written, and

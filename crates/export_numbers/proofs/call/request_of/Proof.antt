@@ -1,8 +1,8 @@
 -- `request_of` reads the numbers in their order.
 use borrow.Author.Needs.{needs}
-use Rattle.exports.specs.Store.{requestOf}
-use Rattle.exports.proofs.store.request_of.Statement.{statement}
-use Rattle.exports.proofs.store.request_of.Tie as tie
+use Rattle.export_numbers.specs.Call.{requestOf}
+use Rattle.export_numbers.proofs.call.request_of.Statement.{statement}
+use Rattle.export_numbers.proofs.call.request_of.Tie as tie
 
 shared-slice-read-t3 : tie.Need-shared-slice-read-t3
 shared-slice-read-t3 c = search needs

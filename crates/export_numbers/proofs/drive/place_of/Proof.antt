@@ -1,9 +1,9 @@
 -- `place_of` reads its numbers in their order.
 use mathlib.Core.Path.{refl}
 use borrow.Author.Needs.{needs}
-use Rattle.exports.specs.Drive.{placeOf}
-use Rattle.exports.proofs.drive.place_of.Statement.{statement}
-use Rattle.exports.proofs.drive.place_of.Tie as tie
+use Rattle.export_numbers.specs.Drive.{placeOf}
+use Rattle.export_numbers.proofs.drive.place_of.Statement.{statement}
+use Rattle.export_numbers.proofs.drive.place_of.Tie as tie
 
 shared-slice-read-t3 : tie.Need-shared-slice-read-t3
 shared-slice-read-t3 c = search needs

@@ -1,9 +1,9 @@
 -- `repeat_of` reads its numbers in their order.
 use mathlib.Core.Path.{refl}
 use borrow.Author.Needs.{needs}
-use Rattle.exports.specs.Drive.{repeatOf}
-use Rattle.exports.proofs.drive.repeat_of.Statement.{statement}
-use Rattle.exports.proofs.drive.repeat_of.Tie as tie
+use Rattle.export_numbers.specs.Drive.{repeatOf}
+use Rattle.export_numbers.proofs.drive.repeat_of.Statement.{statement}
+use Rattle.export_numbers.proofs.drive.repeat_of.Tie as tie
 
 shared-slice-read-t3 : tie.Need-shared-slice-read-t3
 shared-slice-read-t3 c = search needs

@@ -1,7 +1,7 @@
 -- `fits` tests both lengths.
 use Rattle.layout.proofs.Deciding.{no-it, as-well, equal}
-use Rattle.exports.proofs.numbers.fits.Statement.{statement}
-use Rattle.exports.proofs.numbers.fits.Tie as tie
+use Rattle.export_numbers.proofs.numbers.fits.Statement.{statement}
+use Rattle.export_numbers.proofs.numbers.fits.Tie as tie
 
 returns : tie.Need-returns
 returns c = as-well (equal (c .before .args .reply) (c .before .args .tells)) (λ e. record { asks-is = c .if1 .taken; tells-is = e }) (λ h. h .tells-is)

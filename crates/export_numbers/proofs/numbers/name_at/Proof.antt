@@ -1,9 +1,9 @@
 -- `name_at` reads two numbers.
 use mathlib.Core.Path.{refl}
 use borrow.Author.Needs.{needs}
-use Rattle.exports.specs.Numbers.{nameAt}
-use Rattle.exports.proofs.numbers.name_at.Statement.{statement}
-use Rattle.exports.proofs.numbers.name_at.Tie as tie
+use Rattle.export_numbers.specs.Numbers.{nameAt}
+use Rattle.export_numbers.proofs.numbers.name_at.Statement.{statement}
+use Rattle.export_numbers.proofs.numbers.name_at.Tie as tie
 
 mul-t3 : tie.Need-mul-t3
 mul-t3 c = search needs

@@ -2,8 +2,8 @@
 use mathlib.Core.Path.{refl}
 use borrow.Author.Needs.{needs}
 use Rattle.layout.proofs.Deciding.{refuted}
-use Rattle.exports.proofs.numbers.unfit.Statement.{statement}
-use Rattle.exports.proofs.numbers.unfit.Tie as tie
+use Rattle.export_numbers.proofs.numbers.unfit.Statement.{statement}
+use Rattle.export_numbers.proofs.numbers.unfit.Tie as tie
 
 check-requires : tie.Need-check-requires
 check-requires c κs = search needs

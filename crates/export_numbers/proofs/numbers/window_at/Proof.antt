@@ -1,9 +1,9 @@
 -- `window_at` reads two numbers.
 use mathlib.Core.Path.{refl}
 use borrow.Author.Needs.{needs}
-use Rattle.exports.specs.Numbers.{windowAt}
-use Rattle.exports.proofs.numbers.window_at.Statement.{statement}
-use Rattle.exports.proofs.numbers.window_at.Tie as tie
+use Rattle.export_numbers.specs.Numbers.{windowAt}
+use Rattle.export_numbers.proofs.numbers.window_at.Statement.{statement}
+use Rattle.export_numbers.proofs.numbers.window_at.Tie as tie
 
 mul-t3 : tie.Need-mul-t3
 mul-t3 c = search needs

@@ -2,10 +2,10 @@
 use native.Mathlib.Omega.{arith}
 use lib.ListN.{length-set}
 use borrow.Author.Needs.{needs}
-use Rattle.exports.specs.Question.{numbersOf}
-use Rattle.exports.proofs.Filled.{filled}
-use Rattle.exports.proofs.question.put_window.Statement.{statement}
-use Rattle.exports.proofs.question.put_window.Tie as tie
+use Rattle.export_numbers.specs.Window.{numbersOf}
+use Rattle.export_numbers.proofs.Filled.{filled}
+use Rattle.export_numbers.proofs.window.put_window.Statement.{statement}
+use Rattle.export_numbers.proofs.window.put_window.Tie as tie
 
 slice-write-numbers : tie.Need-slice-write-numbers
 slice-write-numbers c = search needs

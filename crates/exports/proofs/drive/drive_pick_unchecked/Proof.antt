@@ -3,9 +3,9 @@ use mathlib.Core.Path.{refl}
 use native.Mathlib.Omega.{arith}
 use borrow.Author.Needs.{needs}
 use Rattle.layout.proofs.Deciding.{refuted}
-use Rattle.exports.specs.Numbers.{Fitting}
-use Rattle.exports.specs.Drive.{requestLength, replyLength}
-use Rattle.exports.proofs.Making.{pick-made, pick-kept}
+use Rattle.export_numbers.specs.Numbers.{Fitting}
+use Rattle.export_numbers.specs.Drive.{requestLength, replyLength}
+use Rattle.exports.proofs.Making.{pick-made, kept-by}
 use Rattle.exports.proofs.drive.drive_pick_unchecked.Statement.{statement}
 use Rattle.exports.proofs.drive.drive_pick_unchecked.Tie as tie
 
@@ -62,7 +62,7 @@ returns c =
 
 returns-2 : tie.Need-returns-2
 returns-2 c =
-    pick-kept (refuted (c .before .fits2 .ensures) (c .if1 .left)) (record { code-is = refl; reply-is = refl; slices-are = refl })
+    kept-by (refuted (c .before .fits2 .ensures) (c .if1 .left)) (record { code-is = refl; reply-is = refl; slices-are = refl })
 
 pub drive-pick-unchecked-spec : {M : Type 1} → statement M
 drive-pick-unchecked-spec =

@@ -3,9 +3,9 @@ use mathlib.Core.Path.{refl}
 use native.Mathlib.Omega.{arith}
 use borrow.Author.Needs.{needs}
 use Rattle.layout.proofs.Deciding.{refuted}
-use Rattle.exports.specs.Numbers.{Fitting}
-use Rattle.exports.specs.Question.{requestLength, replyLength}
-use Rattle.exports.proofs.Making.{window-made, window-kept}
+use Rattle.export_numbers.specs.Numbers.{Fitting}
+use Rattle.export_numbers.specs.Window.{requestLength, replyLength}
+use Rattle.exports.proofs.Making.{window-made, kept-by}
 use Rattle.exports.proofs.question.store_window.Statement.{statement}
 use Rattle.exports.proofs.question.store_window.Tie as tie
 
@@ -47,7 +47,7 @@ unfit-requires c κs = search needs
 returns-2 : tie.Need-returns-2
 returns-2 c =
     let e = c .before in
-    window-kept (refuted (e .before .fits2 .ensures) (e .if1 .left)) (record { code-is = c .unfit .ensures; reply-is = refl })
+    kept-by (refuted (e .before .fits2 .ensures) (e .if1 .left)) (record { code-is = c .unfit .ensures; reply-is = refl })
 
 pub store-window-spec : {M : Type 1} → statement M
 store-window-spec =

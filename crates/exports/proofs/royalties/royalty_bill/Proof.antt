@@ -3,9 +3,9 @@ use mathlib.Core.Path.{refl}
 use native.Mathlib.Omega.{arith}
 use borrow.Author.Needs.{needs}
 use Rattle.layout.proofs.Deciding.{refuted}
-use Rattle.exports.specs.Numbers.{Fitting}
-use Rattle.exports.specs.Royalties.{requestLength, replyLength}
-use Rattle.exports.proofs.Making.{bill-made, bill-kept}
+use Rattle.export_numbers.specs.Numbers.{Fitting}
+use Rattle.export_numbers.specs.Royalties.{requestLength, replyLength}
+use Rattle.exports.proofs.Making.{bill-made, kept-by}
 use Rattle.exports.proofs.royalties.royalty_bill.Statement.{statement}
 use Rattle.exports.proofs.royalties.royalty_bill.Tie as tie
 
@@ -71,7 +71,7 @@ same-length-7 c = search needs
 returns-2 : tie.Need-returns-2
 returns-2 c =
     let e = c .before .before .before .before in
-    bill-kept (refuted (e .before .fits2 .ensures) (e .if1 .left))
+    kept-by (refuted (e .before .fits2 .ensures) (e .if1 .left))
     (record { code-is = c .unfit .ensures; reply-is = refl; slices-are = refl })
 
 pub royalty-bill-spec : {M : Type 1} → statement M

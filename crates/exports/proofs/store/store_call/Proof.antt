@@ -2,9 +2,9 @@
 use mathlib.Core.Path.{refl}
 use borrow.Author.Needs.{needs}
 use Rattle.layout.proofs.Deciding.{refuted}
-use Rattle.exports.specs.Numbers.{Fitting}
-use Rattle.exports.specs.Store.{requestLength, replyLength}
-use Rattle.exports.proofs.Making.{made-by, kept-by}
+use Rattle.export_numbers.specs.Numbers.{Fitting}
+use Rattle.export_numbers.specs.Call.{requestLength, replyLength}
+use Rattle.exports.proofs.Making.{call-made, kept-by}
 use Rattle.exports.proofs.store.store_call.Statement.{statement}
 use Rattle.exports.proofs.store.store_call.Tie as tie
 
@@ -48,7 +48,7 @@ same-length-6 c = search needs
 returns : tie.Need-returns
 returns c =
     let q = c .before .before .before .before .before .before .before .before .before .before .before .before .before .before in
-    made-by (fitting (q .before .before .before .before .before .before .before)) (q .before .before .before .before .before .before .request-of .ensures) (q .call .ensures) (c .before .before .put-reply .ensures)
+    call-made (fitting (q .before .before .before .before .before .before .before)) (q .before .before .before .before .before .before .request-of .ensures) (q .call .ensures) (c .before .before .put-reply .ensures)
 
 unfit-requires : tie.Need-unfit-requires
 unfit-requires c κs = search needs

@@ -3,9 +3,9 @@ use mathlib.Core.Path.{refl}
 use borrow.Author.Needs.{needs}
 use Rattle.layout.proofs.Deciding.{refuted}
 use Rattle.kernel_call.proofs.Calling.{calls-step}
-use Rattle.exports.specs.Numbers.{Fitting}
-use Rattle.exports.specs.Store.{requestLength, replyLength}
-use Rattle.exports.proofs.Making.{made-by, kept-by}
+use Rattle.export_numbers.specs.Numbers.{Fitting}
+use Rattle.export_numbers.specs.Call.{requestLength, replyLength}
+use Rattle.exports.proofs.Making.{call-made, kept-by}
 use Rattle.exports.proofs.store.store_step_unchecked.Statement.{statement}
 use Rattle.exports.proofs.store.store_step_unchecked.Tie as tie
 
@@ -50,7 +50,7 @@ returns : tie.Need-returns
 returns c =
     let q = c .before .before .before .before .before .before .before .before .before .before .before .before .before .before in
     let t = q .before .before .before .before .before .before .before in
-    made-by (fitting t) (q .before .before .before .before .before .before .request-of .ensures) (calls-step (start t .pre) (q .step .ensures))
+    call-made (fitting t) (q .before .before .before .before .before .before .request-of .ensures) (calls-step (start t .pre) (q .step .ensures))
     (c .before .before .put-reply .ensures)
 
 returns-2 : tie.Need-returns-2

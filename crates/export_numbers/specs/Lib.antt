@@ -1,0 +1,6 @@
+-- Requests and replies as they cross to C: the meaning of each row of numbers.
+pub mod Numbers
+pub mod Call
+pub mod Window
+pub mod Drive
+pub mod Royalties
