@@ -2,5 +2,6 @@
 pub mod Numbers
 pub mod Call
 pub mod Window
+pub mod Count
 pub mod Drive
 pub mod Royalties

@@ -12,6 +12,8 @@ use Rattle.kernel_step.specs.Slices.{Slices}
 use Rattle.kernel_call.specs.Calls.{Calls}
 use Rattle.question_window.specs.declared.Windowed.{Windowed}
 use Rattle.question_window.specs.Asks as AsksWindow
+use Rattle.question_count.specs.declared.Counted.{Counted}
+use Rattle.question_count.specs.Asks as AsksCount
 use Rattle.product_drive.specs.declared.repeat.Repeat.{Repeat}
 use Rattle.product_drive.specs.declared.repeat.Place.{Place}
 use Rattle.product_drive.specs.declared.picked.Picked.{Picked}
@@ -22,11 +24,12 @@ use Rattle.product_royalties.specs.Bills.{Bills}
 use Rattle.export_numbers.specs.Numbers.{nameAt, capabilityAt, windowAt, Fitting}
 use Rattle.export_numbers.specs.Call as CallNumbers
 use Rattle.export_numbers.specs.Window as WindowNumbers
+use Rattle.export_numbers.specs.Count as CountNumbers
 use Rattle.export_numbers.specs.Drive as DriveNumbers
 use Rattle.export_numbers.specs.Royalties as RoyaltyNumbers
 use Rattle.exports.specs.Crossing.{Crosses, Answered}
 use Rattle.exports.specs.Store as Store
-use Rattle.exports.specs.Question.{WindowTold}
+use Rattle.exports.specs.Question.{WindowTold, CountTold}
 use Rattle.exports.specs.Drive as Drive
 use Rattle.exports.specs.Hooks as Hooks
 use Rattle.exports.specs.Royalties as Royalties
@@ -66,6 +69,14 @@ module _ {b l w request reply reply′ : List ℕ} where
       → WindowTold b l w request (a .code) reply reply′
   unfolding WindowNumbers.numbersOf
   window-made {a = a} f en ex asks e = made-by f (answered-by a (rw en at (rw ex at asks)) e refl)
+
+  pub count-made : {n o : Name} {a : Counted}
+      → Fitting CountNumbers.requestLength CountNumbers.replyLength request reply
+      → n ≡ nameAt request 0 → o ≡ nameAt request 2 → AsksCount.Asks b l w n o (CountNumbers.rightOf request) a
+      → reply′ ≡ CountNumbers.numbersOf a
+      → CountTold b l w request (a .code) reply reply′
+  unfolding CountNumbers.numbersOf
+  count-made {a = a} f en eo asks e = made-by f (answered-by a (rw en at (rw eo at asks)) e refl)
 
 module _ {request reply reply′ : List ℕ} {was is : Slices} where
   pub pick-made : {n : Name} {x : Capability} {p : Repeat} {d : Place} {r : Picked}
