@@ -1,5 +1,5 @@
-//! The C functions of the verified kernel, of the loom drive, of patterns by hook and of royalties
-//! as safe functions on slices. All unsafe code is here, but for `stack`.
+//! The C functions of the verified kernel, of the questions, of the loom drive, of patterns by hook
+//! and of royalties as safe functions on slices. All unsafe code is here, but for `stack`.
 
 use crate::request::{Request, REPLY};
 use trials::raw::RawStore;
@@ -24,19 +24,6 @@ extern "C" {
         links_length: usize,
         words: *mut u32,
         words_length: usize,
-    ) -> u32;
-
-    fn store_window(
-        bytes: *const u8,
-        bytes_length: usize,
-        links: *const u16,
-        links_length: usize,
-        words: *const u32,
-        words_length: usize,
-        request: *const u32,
-        request_length: usize,
-        reply: *mut u32,
-        reply_length: usize,
     ) -> u32;
 
     fn hook_write(
@@ -123,6 +110,29 @@ macro_rules! read_entries {
 }
 
 read_entries!(drive_pick, drive_pick_unchecked, hook_read);
+
+/// Declares entry points of the questions: the store's slices, which are only read, the request's
+/// numbers and those of the reply.
+macro_rules! question_entries {
+    ($($name:ident),*) => {
+        extern "C" {
+            $(fn $name(
+                bytes: *const u8,
+                bytes_length: usize,
+                links: *const u16,
+                links_length: usize,
+                words: *const u32,
+                words_length: usize,
+                request: *const u32,
+                request_length: usize,
+                reply: *mut u32,
+                reply_length: usize,
+            ) -> u32;)*
+        }
+    };
+}
+
+question_entries!(store_window, password_count);
 
 /// The check of a store: whether it is well formed.
 pub fn check(raw: &RawStore) -> bool {
@@ -237,13 +247,26 @@ pub fn call(
     reply_of(store_call, raw, request, buffer, scratch)
 }
 
-/// The question for a window: its code; the reply is written into its slice.
-pub fn window(raw: &RawStore, request: &[u32], reply: &mut [u32]) -> u32 {
+/// The type of `store_window` and `password_count`.
+type QuestionEntry = unsafe extern "C" fn(
+    *const u8,
+    usize,
+    *const u16,
+    usize,
+    *const u32,
+    usize,
+    *const u32,
+    usize,
+    *mut u32,
+    usize,
+) -> u32;
+
+fn ask(entry: QuestionEntry, raw: &RawStore, request: &[u32], reply: &mut [u32]) -> u32 {
     let RawStore { bytes, links, words } = raw;
     // SAFETY: each pointer comes with its slice's length; the reply, which alone is written, is
     // lent for writing.
     unsafe {
-        store_window(
+        entry(
             bytes.as_ptr(),
             bytes.len(),
             links.as_ptr(),
@@ -256,6 +279,16 @@ pub fn window(raw: &RawStore, request: &[u32], reply: &mut [u32]) -> u32 {
             reply.len(),
         )
     }
+}
+
+/// The question for a window: its code; the reply is written into its slice.
+pub fn window(raw: &RawStore, request: &[u32], reply: &mut [u32]) -> u32 {
+    ask(store_window, raw, request, reply)
+}
+
+/// The question for the number of passwords, in the same way.
+pub fn count(raw: &RawStore, request: &[u32], reply: &mut [u32]) -> u32 {
+    ask(password_count, raw, request, reply)
 }
 
 /// The type of `drive_pick`, `drive_pick_unchecked` and `hook_read`.

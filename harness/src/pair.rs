@@ -3,10 +3,11 @@
 
 use crate::kernel::{self, FormedStore};
 use crate::request::{
-    answer, bill_request, billed, hook_request, pick_request, picked, window_request, Request,
-    BILL_REPLY, PICK_REPLY, REPLY, WINDOW_REPLY,
+    answer, bill_request, billed, count_request, hook_request, pick_request, picked,
+    window_request, Request, BILL_REPLY, COUNT_REPLY, PICK_REPLY, REPLY, WINDOW_REPLY,
 };
 use reference::call::{call_kind, Answer, Call, Key, Name};
+use reference::counting::PasswordCount;
 use reference::drive::{Pick, Picked};
 use reference::hooks::{Hooked, Transfer};
 use reference::kernel::Store;
@@ -74,14 +75,28 @@ pub fn call_raw(raw: &mut RawStore, call: &Call, expected: &Answer, random: &mut
     answer(reply, &buffer)
 }
 
-/// Asks the raw store alone for a window, which changes nothing: the code, start and end.
-pub fn window_raw(raw: &RawStore, caller: Name, key: Key) -> [u32; WINDOW_REPLY] {
+/// Asks the raw store alone, which changes nothing: the reply.
+fn ask_raw<const N: usize>(
+    ask: fn(&RawStore, &[u32], &mut [u32]) -> u32,
+    raw: &RawStore,
+    request: &[u32],
+) -> [u32; N] {
     let before = raw.clone();
-    let mut reply = [MAX_WORD; WINDOW_REPLY];
-    let code = kernel::window(raw, &window_request(caller, key), &mut reply);
+    let mut reply = [MAX_WORD; N];
+    let code = ask(raw, request, &mut reply);
     assert_eq!(code, reply[0], "the code is returned, too");
-    assert!(*raw == before, "changed by a question: {caller:?} {key:?}");
+    assert!(*raw == before, "changed by a question: {request:?}");
     reply
+}
+
+/// Asks the raw store alone for a window: the code, start and end.
+pub fn window_raw(raw: &RawStore, caller: Name, key: Key) -> [u32; WINDOW_REPLY] {
+    ask_raw(kernel::window, raw, &window_request(caller, key))
+}
+
+/// Asks the raw store alone for the number of passwords: the code and the number.
+pub fn count_raw(raw: &RawStore, asked: &PasswordCount) -> [u32; COUNT_REPLY] {
+    ask_raw(kernel::count, raw, &count_request(asked))
 }
 
 /// Makes the pick by a function that takes the buffer, the request and the reply: it gives what is
@@ -159,6 +174,16 @@ impl Pair {
         };
         assert_eq!(window_raw(&self.raw, caller, key), expected, "{caller:?} {key:?}");
         expected[0]
+    }
+
+    /// Asks both for the number of passwords, and compares; the answer's code and the number.
+    pub fn count(&self, asked: &PasswordCount) -> [u32; COUNT_REPLY] {
+        let expected = match asked.ask(&self.store) {
+            Ok(count) => [DONE, count],
+            Err(refusal) => [refusal.number(), 0],
+        };
+        assert_eq!(count_raw(&self.raw, asked), expected, "{asked:?}");
+        expected
     }
 
     /// Makes the pick on both, and on a copy of the slices unchecked, and compares all that it

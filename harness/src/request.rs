@@ -1,8 +1,9 @@
 //! A call as the verified kernel takes it: 20 numbers and the bytes that come with it; and its
-//! reply, 9 numbers, as an answer. The question for a window, a pick of the loom drive, a read or a
-//! write by hook and a bill of royalties have requests of their own.
+//! reply, 9 numbers, as an answer. The questions for a window and for the number of passwords, a pick
+//! of the loom drive, a read or a write by hook and a bill of royalties have requests of their own.
 
 use reference::call::{Action, Answer, Call, Key, Name, Operation};
+use reference::counting::PasswordCount;
 use reference::drive::{Pick, Picked, Place, Repeat};
 use reference::hooks::Hooked;
 use reference::royalties::{Bill, Billed};
@@ -15,14 +16,18 @@ pub const REPLY: usize = 9;
 pub const WINDOW_REQUEST: usize = 6;
 /// The numbers of its reply: the code, the window's start and its end.
 pub const WINDOW_REPLY: usize = 3;
-/// The numbers of a pick: those of the question, the repeat and the place.
+/// The numbers of a question for the number of passwords: the process, the object and the right.
+pub const COUNT_REQUEST: usize = 5;
+/// The numbers of its reply: the code and the number.
+pub const COUNT_REPLY: usize = 2;
+/// The numbers of a pick: those of the question for a window, the repeat and the place.
 pub const PICK_REQUEST: usize = WINDOW_REQUEST + 5;
 /// The numbers of its reply: the code, the step, the place, and how many bytes were read.
 pub const PICK_REPLY: usize = 5;
-/// The numbers of a read or a write by hook: those of the question, and the range. Its reply is a
+/// The numbers of a read or a write by hook: those of that question, and the range. Its reply is a
 /// call's.
 pub const HOOK_REQUEST: usize = WINDOW_REQUEST + 2;
-/// The numbers of a bill: those of the question, the count and the picks.
+/// The numbers of a bill: those of that question, the count and the picks.
 pub const BILL_REQUEST: usize = WINDOW_REQUEST + 2;
 /// The numbers of its reply: the code, the count and the sum.
 pub const BILL_REPLY: usize = 3;
@@ -125,7 +130,13 @@ pub fn window_request(caller: Name, key: Key) -> [u32; WINDOW_REQUEST] {
     [volume, serial, of, number, key.p1, key.p2]
 }
 
-/// The numbers of a question, and those that a request has after them.
+/// The numbers of a question for the number of passwords.
+pub fn count_request(asked: &PasswordCount) -> [u32; COUNT_REQUEST] {
+    let ([volume, serial], [of, number]) = (name(asked.caller), name(asked.object));
+    [volume, serial, of, number, asked.right]
+}
+
+/// The numbers of a question for a window, and those that a request has after them.
 fn presented<const N: usize>(caller: Name, key: Key, after: &[u32]) -> [u32; N] {
     let mut numbers = [0; N];
     let (question, rest) = numbers.split_at_mut(WINDOW_REQUEST);

@@ -124,7 +124,7 @@ impl Generator {
         }
     }
 
-    fn out_of_range(&mut self, name: Name) -> Name {
+    pub(crate) fn out_of_range(&mut self, name: Name) -> Name {
         match self.random.below(4) {
             0 => Name { volume: MAX_VOLUME + 1, ..name },
             1 => Name { volume: u32::MAX, ..name },
@@ -133,7 +133,7 @@ impl Generator {
         }
     }
 
-    fn drawn_name(&mut self) -> Name {
+    pub(crate) fn drawn_name(&mut self) -> Name {
         Name {
             volume: self.random.below(MAX_VOLUME + 1),
             serial: match self.random.below(40) {

@@ -2,8 +2,8 @@
 //!
 //! `generate`, with `profiles` and `random`, makes random calls and scripts (`make-script`);
 //! `conditions`, `scenes` and `coverage` count what they meet (`coverage`). `picks` makes picks of
-//! the loom drive, `hooks` reads and writes by hook, and `bills` those of royalties; `met` counts
-//! what those meet. `edges` is 01's edges as scripts; `examples` prints answered scripts as
+//! the loom drive, `hooks` reads and writes by hook, `bills` those of royalties, and `counts`
+//! questions for the number of passwords; `met` counts what those meet. `edges` is 01's edges as scripts; `examples` prints answered scripts as
 //! definitions (`script-table`).
 //!
 //! `raw` is a store in slices (`layout` has the offsets, `encode` lays a store out), `oracle` and
@@ -12,6 +12,7 @@
 
 pub mod bills;
 pub mod conditions;
+pub mod counts;
 pub mod coverage;
 pub mod crafted;
 pub mod damage;

@@ -8,7 +8,7 @@ use native.Mathlib.Omega.{arith}
 use lib.Dec.{leb}
 use borrow.Author.Tests.{leb-true}
 use Rattle.rules.specs.Limit as Limit
-use Rattle.rules.specs.Store.{State, objectNamed, fresh}
+use Rattle.rules.specs.Store.{State, objectNamed, capsLive, fresh}
 use Rattle.rules.specs.Valid.{Valid}
 use Rattle.rules.specs.Call.{Call, Outcome}
 use Rattle.rules.specs.Rights.{op}
@@ -85,6 +85,11 @@ valid-after s [] v h = v
 valid-after s (l ∷ ls) v h =
     let f = all2 (wordsFit (call l)) (allFit ls) h in
     valid-after (lineRule s l .after) ls (valid-line s l v (f .0)) (f .1)
+
+-- each line is done: there are seven capabilities more than at first
+pub lines-done : capsLive hall ≡ 8
+unfolding Script.computes Rules.computes Edges.computes
+lines-done = refl
 
 lines-fit : allFit lines ≡ true
 unfolding allFit wordsFit Script.computes Rules.computes Edges.computes

@@ -20,13 +20,13 @@ lines =
     makes 128
     -- all rights, and a p1 with its top bit
     ∷ derives 11 8191 0 128 2147483658
-    -- READ
-    ∷ derives 11 1 0 64 21
+    -- READ and DERIVE_CAP
+    ∷ derives 11 9 0 64 21
     -- READ and WRITE, from the second
     ∷ derives 2147483658 3 0 64 2147483649
     -- all but READ
     ∷ derives 11 8190 0 128 41
-    -- no right: READ is all that its parent has
+    -- no right: WRITE is asked, which its parent has not
     ∷ derives 21 2 0 64 51
     -- the process 3 8, which is suspended
     ∷ (1 ∷ 0 ∷ 1 ∷ 3 ∷ 0 ∷ 1 ∷ 8191 ∷ 8 ∷ 61 ∷ 13 ∷ [])

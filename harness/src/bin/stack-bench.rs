@@ -1,15 +1,16 @@
 //! How deep the verified functions go on the stack: the check on several shapes of tree, and each
-//! call on a chain of capabilities, 512 deep where the call needs no free one; a question, a pick, a
-//! write and a read by hook, and a bill on that chain.
+//! call on a chain of capabilities, 512 deep where the call needs no free one; the questions, a pick,
+//! a write and a read by hook, and a bill on that chain.
 
 use harness::kernel::{self, FormedStore};
 use harness::pair::enter_hooked;
 use harness::request::{
-    bill_request, hook_request, pick_request, window_request, Request, BILL_REPLY, PICK_REPLY,
-    REPLY, WINDOW_REPLY,
+    bill_request, count_request, hook_request, pick_request, window_request, Request, BILL_REPLY,
+    COUNT_REPLY, PICK_REPLY, REPLY, WINDOW_REPLY,
 };
 use harness::stack::depth;
 use reference::call::{Action, Call, Key, Name, Operation};
+use reference::counting::PasswordCount;
 use reference::drive::{Pick, Place, Repeat};
 use reference::hooks::{Hooked, Transfer};
 use reference::kernel::{Capability, Message, Object, Store};
@@ -126,6 +127,14 @@ fn pick_depths(store: &Store) -> [usize; 3] {
     [whole, step, question]
 }
 
+/// The depth of a count of the passwords of the whole chain.
+fn count_depth(store: &Store) -> usize {
+    let asked = PasswordCount { caller: NAME, object: NAME, right: right::READ };
+    let raw = encode(store, &mut Random::new(4));
+    let mut reply = [0; COUNT_REPLY];
+    depth(|| assert_eq!(kernel::count(&raw, &count_request(&asked), &mut reply), DONE))
+}
+
 /// The depths of a write and of a read by hook at the lowest capability.
 fn hook_depths(store: &Store) -> [usize; 2] {
     let (_, key) = ends(store);
@@ -184,6 +193,7 @@ fn main() {
     println!("\n{:40}{whole:>8}", "drive_pick");
     println!("{:40}{step:>8}", "drive_pick_unchecked");
     println!("{:40}{question:>8}", "store_window");
+    println!("{:40}{:>8}", "password_count", count_depth(&full));
     let [write, read] = hook_depths(&full);
     println!("{:40}{write:>8}", "hook_write");
     println!("{:40}{read:>8}", "hook_read");

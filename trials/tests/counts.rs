@@ -1,0 +1,100 @@
+//! Random questions for the number of passwords on the reference, between the calls of random runs:
+//! the answer by a second writing, that counts capabilities, every scene met and every right asked.
+//! And the examples of the verified definitions.
+
+mod table;
+
+use reference::call::Name;
+use reference::counting::PasswordCount;
+use reference::kernel::Store;
+use reference::numbers::*;
+use reference::script::{answer_line, read_numbers, start};
+use std::collections::BTreeMap;
+use trials::counts::{Tried, SCENES};
+use trials::generate::Generator;
+use trials::met::Met;
+use trials::profiles::PROFILES;
+
+/// The answer's code and its number.
+fn expected(store: &Store, asked: &PasswordCount) -> (u32, u32) {
+    let in_range = |name: Name| name.volume < 4 && name.serial < 65_536;
+    let one_right = (0..13).any(|bit| asked.right == 1 << bit);
+    if !one_right || !in_range(asked.caller) || !in_range(asked.object) {
+        return (OUT_OF_RANGE, 0);
+    }
+    if !store.objects.get(&asked.caller).is_some_and(|caller| caller.process) {
+        return (NOT_RUNNING, 0);
+    }
+    let of = store.capabilities.iter().filter(|((name, _), _)| *name == asked.object);
+    (DONE, of.filter(|(_, found)| found.rights & asked.right == asked.right).count() as u32)
+}
+
+fn answered(store: &Store, asked: &PasswordCount) -> (u32, u32) {
+    asked.ask(store).map_or_else(|refusal| (refusal.number(), 0), |count| (DONE, count))
+}
+
+/// A run of each profile with a question after each call; how often each right was counted.
+fn runs(seed: u64, met: &mut Met<Tried>, rights: &mut BTreeMap<u32, u64>) {
+    for profile in PROFILES {
+        let mut generator = Generator::new(profile, seed);
+        let [supply, p1, p2] = generator.first();
+        let mut store = Store::fresh(supply, p1, p2);
+        for _ in 0..profile.calls {
+            store.run(&generator.next_call(&store));
+            let asked = generator.next_count(&store);
+            let given = answered(&store, &asked);
+            assert_eq!(given, expected(&store, &asked), "{asked:?}");
+            met.note(&Tried::new(&store, &asked), given.0);
+            *rights.entry(asked.right).or_default() += u64::from(given.1 > 0);
+        }
+    }
+}
+
+#[test]
+fn random_counts() {
+    let (mut met, mut rights) = (Met::new(&SCENES), BTreeMap::new());
+    (1..=4).for_each(|seed| runs(seed, &mut met, &mut rights));
+    for (scene, code, count) in met.counts() {
+        println!("{code:>2} {scene:40}{count:>8}");
+        assert!(count > 10, "not met: {scene}");
+    }
+    assert!(right::ALL.iter().all(|right| rights[right] > 50), "{rights:?}");
+}
+
+/// The table of examples that the definition of the count is proved to hold.
+const EDGES: &str = include_str!("../../crates/question_count/specs/Edges.antt");
+
+/// The lines that make the store of the examples.
+const LINES: [&str; 9] = [
+    "1000 5 9",
+    "1 0 1 2 128 0 8191 7 11 13",
+    "5 0 1 2 7 11 13 8191 0 128 2147483658 13",
+    "5 0 1 2 7 11 13 9 0 64 21 13",
+    "5 0 1 2 7 2147483658 13 3 0 64 2147483649 13",
+    "5 0 1 2 7 11 13 8190 0 128 41 13",
+    "5 0 1 2 7 21 13 2 0 64 51 13",
+    "1 0 1 3 0 1 8191 8 61 13",
+    "12 0 1 0 1 5 9 6 0",
+];
+
+fn hall() -> Store {
+    let mut lines = LINES.map(|line| read_numbers(line.as_bytes())).into_iter();
+    let mut store = lines.next().flatten().and_then(start).expect("a first line");
+    for line in lines {
+        assert_eq!(answer_line(&mut store, line.as_deref())[0], DONE, "{line:?}");
+    }
+    store
+}
+
+/// The reference gives for each example what the definition does: the caller, the object and the
+/// right; the code and the number.
+#[test]
+fn edges() {
+    let (store, edges) = (hall(), table::edges(EDGES));
+    assert_eq!(edges.len(), 24);
+    for [volume, serial, of, number, right, code, count] in edges {
+        let caller = Name { volume, serial };
+        let asked = PasswordCount { caller, object: Name { volume: of, serial: number }, right };
+        assert_eq!(answered(&store, &asked), (code, count), "{asked:?}");
+    }
+}
