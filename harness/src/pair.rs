@@ -14,6 +14,10 @@ use reference::kernel::Store;
 use reference::numbers::*;
 use reference::royalties::{Bill, Billed};
 use std::collections::BTreeMap;
+use trials::encode::encode;
+use trials::generate::Generator;
+use trials::oracle::well_formed;
+use trials::profiles::Profile;
 use trials::random::Random;
 use trials::raw::{decode, RawStore};
 
@@ -150,6 +154,28 @@ pub fn bill_raw(raw: &mut RawStore, bill: &Bill, expected: &Billed, random: &mut
 }
 
 impl Pair {
+    /// A random run of a profile, laid out anew now and then, with something done after each call;
+    /// what it leaves is well formed.
+    pub fn run(
+        profile: Profile,
+        seed: u64,
+        after: &mut impl FnMut(&mut Pair, &mut Generator, &mut Random),
+    ) {
+        let (mut generator, mut random) = (Generator::new(profile, seed), Random::new(seed));
+        let [supply, p1, p2] = generator.first();
+        let store = Store::fresh(supply, p1, p2);
+        let mut pair = Pair { raw: encode(&store, &mut random), store };
+        for _ in 0..profile.calls {
+            if random.chance(20) {
+                pair.raw = encode(&pair.store, &mut random);
+            }
+            let call = generator.next_call(&pair.store);
+            pair.call(&call, &mut random, &mut Answers::new());
+            after(&mut pair, &mut generator, &mut random);
+        }
+        assert!(well_formed(&pair.raw));
+    }
+
     /// Makes the call on both, and compares all that it leaves; the answer's code.
     pub fn call(&mut self, call: &Call, random: &mut Random, answers: &mut Answers) -> u32 {
         let before = self.raw.clone();

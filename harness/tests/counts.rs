@@ -3,11 +3,11 @@
 use harness::hall::{by_boss, hall, BLIND, BOSS, CARDS, ROWS, WEAVER};
 use harness::kernel;
 use harness::lengths::{other_lengths, RESIZES};
-use harness::pair::{count_raw, Answers, Pair};
+use harness::pair::{count_raw, Pair};
 use harness::request::{count_request, COUNT_REPLY};
 use reference::call::{Action, Name, Operation};
 use reference::counting::{passwords_within, PasswordCount};
-use reference::kernel::{Capability, Store};
+use reference::kernel::Capability;
 use reference::numbers::*;
 use std::collections::BTreeSet;
 use trials::counts::{Tried, SCENES};
@@ -22,32 +22,18 @@ use trials::samples::{damaged_stores_of_runs, shaped, Shape};
 /// How many runs of each profile are made.
 const RUNS: u64 = 3;
 
-/// A run of each profile, laid out anew now and then, with questions after each call.
-fn runs(seed: u64, met: &mut Met<Tried>) {
-    for profile in PROFILES {
-        let (mut generator, mut random) = (Generator::new(profile, seed), Random::new(seed));
-        let [supply, p1, p2] = generator.first();
-        let store = Store::fresh(supply, p1, p2);
-        let mut pair = Pair { raw: encode(&store, &mut random), store };
-        for _ in 0..profile.calls {
-            if random.chance(20) {
-                pair.raw = encode(&pair.store, &mut random);
-            }
-            let call = generator.next_call(&pair.store);
-            pair.call(&call, &mut random, &mut Answers::new());
+#[test]
+fn random_counts() {
+    let mut met = Met::new(&SCENES);
+    for (seed, profile) in (1..=RUNS).flat_map(|seed| PROFILES.map(|profile| (seed, profile))) {
+        Pair::run(profile, seed, &mut |pair, generator, _| {
             for _ in 0..2 {
                 let asked = generator.next_count(&pair.store);
                 let [code, _] = pair.count(&asked);
                 met.note(&Tried::new(&pair.store, &asked), code);
             }
-        }
+        });
     }
-}
-
-#[test]
-fn random_counts() {
-    let mut met = Met::new(&SCENES);
-    (1..=RUNS).for_each(|seed| runs(seed, &mut met));
     for (scene, code, count) in met.counts() {
         println!("{code:>2} {scene:40}{count:>8}");
         assert!(count > 10, "not met: {scene}");
@@ -139,31 +125,28 @@ fn full_stores() {
     }
 }
 
-/// The library's numbers are those of trying every password of a cut-down space, by processes with
-/// every lockword of it.
+/// The library's numbers are those of trying every password of a cut-down space, in which there is a
+/// capability for every p1, by a process with one lockword of the space after another.
 #[test]
 fn every_password_of_a_cut_down_space() {
     let mut random = Random::new(56);
     let space = passwords_within([0xc000_0001, 0x8000_0020]);
     let mut pair = hall(64, &mut random);
-    let key = (CARDS.name, CARDS.p1);
-    for (p1, p2) in space.iter().filter(|(p1, p2)| (p1.rotate_left(2) + p2) % 3 != 0) {
+    let master = pair.store.capabilities[&(CARDS.name, CARDS.p1)];
+    for p1 in space.iter().map(|(p1, _)| *p1) {
+        let (_, p2) = random.pick(&space).expect("a password");
         let rights = random.between(0, MAX_RIGHTS);
-        let child =
-            Capability { p2: *p2, parent: Some(key.1), rights, ..pair.store.capabilities[&key] };
-        pair.store.capabilities.insert((CARDS.name, *p1), child);
+        let child = Capability { p2, parent: Some(CARDS.p1), rights, ..master };
+        pair.store.capabilities.insert((CARDS.name, p1), child);
     }
-    // those of the hall are outside the space
-    let outside = [CARDS, ROWS, BLIND].map(|key| key.p1);
+    // the hall's own are outside the space, and of these each right is held by two
     for (first, second) in space.iter().filter(|(first, _)| *first < TOP) {
         let weaver = pair.store.objects.get_mut(&WEAVER.name).expect("a process");
         weaver.lockword = [*first, *second];
         pair.raw = encode(&pair.store, &mut random);
         for right in right::ALL {
             let asked = count(WEAVER.name, CARDS.name, right);
-            let holds = |p1: &u32| pair.store.capabilities[&(CARDS.name, *p1)].rights & right != 0;
-            let others = outside.iter().filter(|p1| holds(p1)).count() as u32;
-            let counted = asked.among(&pair.store, space.iter().copied()) + others;
+            let counted = asked.among(&pair.store, space.iter().copied()) + 2;
             assert_eq!(pair.count(&asked), [DONE, counted], "{first} {second} {right}");
         }
     }

@@ -4,17 +4,14 @@
 use harness::hall::{by_boss, hall, BLIND, BOSS, CARDS, ROWS, WEAVER};
 use harness::kernel::{self, FormedStore};
 use harness::lengths::{other_lengths, RESIZES};
-use harness::pair::{pick_by, window_raw, Answers, Pair};
+use harness::pair::{pick_by, window_raw, Pair};
 use harness::request::{pick_request, window_request, PICK_REPLY, WINDOW_REPLY};
 use reference::call::{Action, Operation};
 use reference::drive::{Pick, Picked, Place, Repeat};
-use reference::kernel::Store;
 use reference::numbers::*;
 use std::collections::{BTreeMap, BTreeSet};
-use trials::encode::encode;
 use trials::generate::Generator;
 use trials::met::Met;
-use trials::oracle::well_formed;
 use trials::picks::SCENES;
 use trials::profiles::{profile, PROFILES};
 use trials::random::Random;
@@ -27,29 +24,18 @@ const RUNS: u64 = 3;
 /// How often each answer was given.
 type Codes = BTreeMap<u32, u64>;
 
-/// A run of each profile, laid out anew now and then, with a question and picks after each call.
+/// A run of each profile with a question and picks after each call.
 fn runs(seed: u64, met: &mut Met<Pick>, windows: &mut Codes) {
     for profile in PROFILES {
-        let mut generator = Generator::new(profile, seed);
-        let mut random = Random::new(seed);
-        let [supply, p1, p2] = generator.first();
-        let store = Store::fresh(supply, p1, p2);
-        let mut pair = Pair { raw: encode(&store, &mut random), store };
-        for _ in 0..profile.calls {
-            if random.chance(20) {
-                pair.raw = encode(&pair.store, &mut random);
-            }
-            let call = generator.next_call(&pair.store);
-            pair.call(&call, &mut random, &mut Answers::new());
+        Pair::run(profile, seed, &mut |pair, generator, random| {
             let mut next = Some(generator.next_pick(&pair.store));
             while let Some(pick) = next {
                 *windows.entry(pair.window(pick.caller, pick.key)).or_default() += 1;
-                let picked = pair.pick(&pick, &mut random);
+                let picked = pair.pick(&pick, random);
                 met.note(&pick, picked.code);
                 next = generator.following(&pick, &picked);
             }
-        }
-        assert!(well_formed(&pair.raw));
+        });
     }
 }
 

@@ -4,18 +4,15 @@
 use harness::hall::{by_boss, hall, BLIND, BOSS, CARDS, ROWS, WEAVER};
 use harness::kernel;
 use harness::lengths::{other_lengths, RESIZES};
-use harness::pair::{bill_raw, Answers, Pair};
+use harness::pair::{bill_raw, Pair};
 use harness::request::{bill_request, BILL_REPLY};
 use reference::call::{Action, Key, Operation};
-use reference::kernel::Store;
 use reference::numbers::*;
 use reference::royalties::{charge, Bill, Billed};
 use std::collections::{BTreeMap, BTreeSet};
 use trials::bills::{Patterns, Tried, SCENES};
-use trials::encode::encode;
 use trials::generate::Generator;
 use trials::met::Met;
-use trials::oracle::well_formed;
 use trials::profiles::{profile, Profile, PROFILES};
 use trials::random::Random;
 use trials::raw::RawStore;
@@ -24,29 +21,19 @@ use trials::samples::damaged_stores_of_runs;
 /// How many runs of each profile are made.
 const RUNS: u64 = 3;
 
-/// A run of a profile, laid out anew now and then, with a bill after each call. Each pattern's
-/// bills add up; the most that one had.
+/// A run of a profile with a bill after each call. Each pattern's bills add up; the most that one
+/// had.
 fn run(profile: Profile, seed: u64, met: &mut Met<Tried>) -> u32 {
-    let (mut generator, mut random) = (Generator::new(profile, seed), Random::new(seed));
-    let [supply, p1, p2] = generator.first();
-    let store = Store::fresh(supply, p1, p2);
-    let mut pair = Pair { raw: encode(&store, &mut random), store };
     let (mut patterns, mut longest) = (Patterns::default(), 0);
-    for _ in 0..profile.calls {
-        if random.chance(20) {
-            pair.raw = encode(&pair.store, &mut random);
-        }
-        let call = generator.next_call(&pair.store);
-        pair.call(&call, &mut random, &mut Answers::new());
+    Pair::run(profile, seed, &mut |pair, generator, random| {
         let bill = generator.next_bill(&pair.store, &mut patterns);
         let tried = Tried::new(&pair.store, &bill);
-        let billed = pair.bill(&bill, &mut random);
+        let billed = pair.bill(&bill, random);
         met.note(&tried, billed.code);
         let account = patterns.book(&bill, &billed);
         assert!(account.adds_up(), "{bill:?}: {account:?}");
         longest = longest.max(account.bills);
-    }
-    assert!(well_formed(&pair.raw));
+    });
     longest
 }
 

@@ -8,7 +8,7 @@
 //!
 //! `raw` is a store in slices (`layout` has the offsets, `encode` lays a store out), `oracle` and
 //! `plain` check that slices are well formed, `damage` and `crafted` spoil them, and `samples`
-//! are stores to do so with.
+//! has random runs and stores to do so with.
 
 pub mod bills;
 pub mod conditions;

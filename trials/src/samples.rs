@@ -1,5 +1,5 @@
-//! Stores to try the checkers on: those met in random runs of all profiles, the same damaged, and
-//! full ones of given shapes.
+//! Random runs of the profiles; and stores to try the checkers on: those met in such runs, the same
+//! damaged, and full ones of given shapes.
 
 use crate::damage::{damage, Kind};
 use crate::encode::{encode, shuffled};
@@ -12,6 +12,28 @@ use reference::call::Name;
 use reference::kernel::{Capability, Object, Store};
 use reference::numbers::{MAX_CAPS, MAX_RIGHTS};
 use std::collections::BTreeSet;
+
+/// A random run of a profile, with something done after each call.
+pub fn calls_of_run(
+    profile: Profile,
+    seed: u64,
+    after: &mut impl FnMut(&mut Generator, &mut Store),
+) {
+    let mut generator = Generator::new(profile, seed);
+    let [supply, p1, p2] = generator.first();
+    let mut store = Store::fresh(supply, p1, p2);
+    for _ in 0..profile.calls {
+        store.run(&generator.next_call(&store));
+        after(&mut generator, &mut store);
+    }
+}
+
+/// Such a run of each profile.
+pub fn calls_of_runs(seed: u64, after: &mut impl FnMut(&mut Generator, &mut Store)) {
+    for profile in PROFILES {
+        calls_of_run(profile, seed, after);
+    }
+}
 
 /// Hands out every so manieth store of a random run of a profile, the fresh one included.
 pub fn stores_of_run(profile: Profile, seed: u64, every: u32, visit: &mut impl FnMut(&Store)) {

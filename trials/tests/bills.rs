@@ -11,9 +11,9 @@ use reference::numbers::*;
 use reference::royalties::{Bill, Billed};
 use trials::bills::{Patterns, Tried, SCENES};
 use trials::conditions::{holding, leave_fee};
-use trials::generate::Generator;
 use trials::met::Met;
 use trials::profiles::PROFILES;
+use trials::samples::calls_of_run;
 
 /// The charge, step by step of the tariff: the picks above each count, up to the next, at a rate.
 fn charge(count: u64) -> u64 {
@@ -52,23 +52,19 @@ fn expected(before: &Store, bill: &Bill) -> (Billed, Store) {
 fn runs(seed: u64, met: &mut Met<Tried>) -> u32 {
     let mut longest = 0;
     for profile in PROFILES {
-        let mut generator = Generator::new(profile, seed);
-        let [supply, p1, p2] = generator.first();
-        let mut store = Store::fresh(supply, p1, p2);
         let mut patterns = Patterns::default();
-        for _ in 0..profile.calls {
-            store.run(&generator.next_call(&store));
-            let bill = generator.next_bill(&store, &mut patterns);
-            let tried = Tried::new(&store, &bill);
-            let (billed, after) = expected(&store, &bill);
-            assert_eq!(bill.run(&mut store), billed, "{bill:?}");
-            assert!(store == after, "changed otherwise: {bill:?}");
-            assert_eq!(claims::well_formed(&store), Ok(()), "{bill:?}");
+        calls_of_run(profile, seed, &mut |generator, store| {
+            let bill = generator.next_bill(store, &mut patterns);
+            let tried = Tried::new(store, &bill);
+            let (billed, after) = expected(store, &bill);
+            assert_eq!(bill.run(store), billed, "{bill:?}");
+            assert!(*store == after, "changed otherwise: {bill:?}");
+            assert_eq!(claims::well_formed(store), Ok(()), "{bill:?}");
             met.note(&tried, billed.code);
             let account = patterns.book(&bill, &billed);
             assert!(account.adds_up(), "{bill:?}: {account:?}");
             longest = longest.max(account.bills);
-        }
+        });
     }
     longest
 }

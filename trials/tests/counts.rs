@@ -11,9 +11,8 @@ use reference::numbers::*;
 use reference::script::{answer_line, read_numbers, start};
 use std::collections::BTreeMap;
 use trials::counts::{Tried, SCENES};
-use trials::generate::Generator;
 use trials::met::Met;
-use trials::profiles::PROFILES;
+use trials::samples::calls_of_runs;
 
 /// The answer's code and its number.
 fn expected(store: &Store, asked: &PasswordCount) -> (u32, u32) {
@@ -35,19 +34,13 @@ fn answered(store: &Store, asked: &PasswordCount) -> (u32, u32) {
 
 /// A run of each profile with a question after each call; how often each right was counted.
 fn runs(seed: u64, met: &mut Met<Tried>, rights: &mut BTreeMap<u32, u64>) {
-    for profile in PROFILES {
-        let mut generator = Generator::new(profile, seed);
-        let [supply, p1, p2] = generator.first();
-        let mut store = Store::fresh(supply, p1, p2);
-        for _ in 0..profile.calls {
-            store.run(&generator.next_call(&store));
-            let asked = generator.next_count(&store);
-            let given = answered(&store, &asked);
-            assert_eq!(given, expected(&store, &asked), "{asked:?}");
-            met.note(&Tried::new(&store, &asked), given.0);
-            *rights.entry(asked.right).or_default() += u64::from(given.1 > 0);
-        }
-    }
+    calls_of_runs(seed, &mut |generator, store| {
+        let asked = generator.next_count(store);
+        let given = answered(store, &asked);
+        assert_eq!(given, expected(store, &asked), "{asked:?}");
+        met.note(&Tried::new(store, &asked), given.0);
+        *rights.entry(asked.right).or_default() += u64::from(given.1 > 0);
+    });
 }
 
 #[test]

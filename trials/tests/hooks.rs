@@ -7,9 +7,8 @@ use reference::hooks::{Hooked, Transfer};
 use reference::kernel::Store;
 use reference::numbers::*;
 use trials::conditions::{holding, leave_fee};
-use trials::generate::Generator;
 use trials::hooks::MetByHook;
-use trials::profiles::PROFILES;
+use trials::samples::calls_of_runs;
 
 /// Each tile as a number of 64 bits, lowest byte first: bit 8i + j goes to 8j + i.
 fn turned(data: &[u8]) -> Vec<u8> {
@@ -42,20 +41,14 @@ fn expected(before: &Store, hooked: &Hooked) -> (Answer, Store) {
 
 /// A run of each profile with a read or a write by hook after each call.
 fn runs(seed: u64, met: &mut MetByHook) {
-    for profile in PROFILES {
-        let mut generator = Generator::new(profile, seed);
-        let [supply, p1, p2] = generator.first();
-        let mut store = Store::fresh(supply, p1, p2);
-        for _ in 0..profile.calls {
-            store.run(&generator.next_call(&store));
-            let hooked = generator.next_hooked(&store);
-            let (answer, after) = expected(&store, &hooked);
-            assert_eq!(hooked.run(&mut store), answer, "{hooked:?}");
-            assert!(store == after, "changed otherwise: {hooked:?}");
-            assert_eq!(claims::well_formed(&store), Ok(()), "{hooked:?}");
-            met.note(&hooked, answer.code);
-        }
-    }
+    calls_of_runs(seed, &mut |generator, store| {
+        let hooked = generator.next_hooked(store);
+        let (answer, after) = expected(store, &hooked);
+        assert_eq!(hooked.run(store), answer, "{hooked:?}");
+        assert!(*store == after, "changed otherwise: {hooked:?}");
+        assert_eq!(claims::well_formed(store), Ok(()), "{hooked:?}");
+        met.note(&hooked, answer.code);
+    });
 }
 
 #[test]

@@ -10,10 +10,9 @@ use reference::drive::{Pick, Picked, Place, Repeat};
 use reference::kernel::Store;
 use reference::numbers::*;
 use trials::conditions::{holding, leave_fee, Condition};
-use trials::generate::Generator;
 use trials::met::Met;
 use trials::picks::SCENES;
-use trials::profiles::PROFILES;
+use trials::samples::calls_of_runs;
 
 /// 02's whole part of i × C / N, divided.
 fn whole_part(pick: &Pick, i: u32) -> u64 {
@@ -105,20 +104,14 @@ fn compared(store: &mut Store, pick: &Pick) -> Picked {
 
 /// A run of each profile with picks between the calls.
 fn runs(seed: u64, met: &mut Met<Pick>) {
-    for profile in PROFILES {
-        let mut generator = Generator::new(profile, seed);
-        let [supply, p1, p2] = generator.first();
-        let mut store = Store::fresh(supply, p1, p2);
-        for _ in 0..profile.calls {
-            store.run(&generator.next_call(&store));
-            let mut next = Some(generator.next_pick(&store));
-            while let Some(pick) = next {
-                let picked = compared(&mut store, &pick);
-                met.note(&pick, picked.code);
-                next = generator.following(&pick, &picked);
-            }
+    calls_of_runs(seed, &mut |generator, store| {
+        let mut next = Some(generator.next_pick(store));
+        while let Some(pick) = next {
+            let picked = compared(store, &pick);
+            met.note(&pick, picked.code);
+            next = generator.following(&pick, &picked);
         }
-    }
+    });
 }
 
 #[test]
