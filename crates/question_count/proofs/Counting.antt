@@ -1,12 +1,13 @@
--- By an object's slot: as many passwords open the object named as the program counts at its slot. And the loop that counts.
-use Prim.Native.Nat.{ℕ, _+_, _-_, _≤_}
-use mathlib.Core.Path.{_≡_, refl, sym, ap, _∙_}
+-- As many passwords open the object named as the program counts at its slot; and what one slot adds, by its cells.
+use Prim.Native.Nat.{ℕ, _≤_}
+use mathlib.Core.Path.{_≡_, sym, ap, _∙_}
 use mathlib.Core.Logic.{_≢_}
 use mathlib.Core.Bool.{Bool, true, false, not, _&&_, and-false}
 use mathlib.Core.List.{List}
 use native.Mathlib.Omega.{arith}
 use lib.Dec.{eqb}
 use borrow.Author.Tests.{eqb-true, eq-eqb, ne-eqb}
+use Rattle.rules.specs.Limit as Limit
 use Rattle.rules.specs.Slots.{one, countOver}
 use Rattle.rules.specs.Store.{Name, State, sameName, capLives, objectNamed}
 use Rattle.rules.specs.Valid.{Valid}
@@ -47,13 +48,13 @@ module _ (s : State) (G : Valid s) (n : Name) (right : ℕ) where
   unfolding PasswordsCaps holding holdingAt countOver
   opening-at me =
       passwords-caps s me n right G
-      ∙ sum-same 512 (λ i. one (capLives s i && sameName (name-of i) n && has (s .cap i .rights) right))
+      ∙ sum-same Limit.caps (λ i. one (capLives s i && sameName (name-of i) n && has (s .cap i .rights) right))
       (λ i. one (holds s (objectNamed s n) right i)) (λ i _ _. ap one (held-so i))
 
 -- no capability is of slot 0
 pub holding-none : (s : State) (o right : ℕ) → o ≡ 0 → 0 ≡ holdingAt s o right
 unfolding holdingAt holds capLives countOver one
-holding-none s o right z = sym (sum-zero 512 (λ i. one (holds s o right i)) (λ i _ _. rw z (none i)))
+holding-none s o right z = sym (sum-zero Limit.caps (λ i. one (holds s o right i)) (λ i _ _. rw z (none i)))
   where
     none : (i : ℕ) → one (not (eqb (s .cap i .object) 0) && eqb (s .cap i .object) 0 && has (s .cap i .rights) right) ≡ 0
     none i = by-bool (eqb (s .cap i .object) 0) (λ e. rw e) (λ e. rw e)

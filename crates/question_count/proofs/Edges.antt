@@ -8,7 +8,7 @@ use native.Mathlib.Omega.{arith}
 use lib.Dec.{leb}
 use borrow.Author.Tests.{leb-true}
 use Rattle.rules.specs.Limit as Limit
-use Rattle.rules.specs.Store.{State, objectNamed, capsLive, fresh}
+use Rattle.rules.specs.Store.{State, objectNamed, capsLive}
 use Rattle.rules.specs.Valid.{Valid}
 use Rattle.rules.specs.Call.{Call, Outcome}
 use Rattle.rules.specs.Rights.{op}

@@ -3,6 +3,7 @@ use Prim.Native.Nat.{ℕ, zero, suc, _+_, _*_, _/_, _%_, _≤_, _<_, min}
 use mathlib.Core.Path.{_≡_, refl, sym, ap, _∙_}
 use native.Mathlib.Omega.{arith}
 use lib.Bits.{bitAnd, and-step, and-zero-l, bitXor, differ, xor-step, xor-self, xor-zero-r, xor-shr}
+use Rattle.rules.specs.Limit as Limit
 
 -- ---- bitAnd is associative, so what lies in a part of a part lies in the whole
 
@@ -67,7 +68,7 @@ xor-twice-by (suc n) a b h =
 pub xor-twice : (a b : ℕ) → bitXor (bitXor a b) b ≡ a
 xor-twice a b = xor-twice-by a a b (omega arith)
 
-pub xor-top : (a b : ℕ) → b < 2147483648 → bitXor a b / 2147483648 ≡ a / 2147483648
+pub xor-top : (a b : ℕ) → b < Limit.top → bitXor a b / Limit.top ≡ a / Limit.top
 xor-top a b h =
-    let z : b / 2147483648 ≡ 0 = omega arith in
-    xor-shr a b 31 ∙ ap (bitXor (a / 2147483648)) z ∙ xor-zero-r (a / 2147483648)
+    let z : b / Limit.top ≡ 0 = omega arith in
+    xor-shr a b 31 ∙ ap (bitXor (a / Limit.top)) z ∙ xor-zero-r (a / Limit.top)

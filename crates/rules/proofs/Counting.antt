@@ -7,6 +7,7 @@ use mathlib.Core.List.{[], _∷_}
 use native.Mathlib.Omega.{arith}
 use lib.Dec.{eqb}
 use Rattle.rules.specs.Code as Code
+use Rattle.rules.specs.Limit as Limit
 use Rattle.rules.specs.Slots.{find, sumOver, one, countOver}
 use Rattle.rules.specs.Store.{Name, sameName, Password, samePassword, State, capLives, objectNamed}
 use Rattle.rules.specs.Valid.{Formed}
@@ -69,11 +70,11 @@ module _ (s : State) (me : ℕ) (n : Name) (right : ℕ) (F : Formed s) where
       (same-password (s .cap i .password) p (x .2) ∙ sym (same-password (s .cap j .password) p (y .2))))
 
   -- a password opens by one capability, or by none
-  opens-count : (a b : ℕ) → one (opens s me n right a b) ≡ sumOver 512 (λ i. one (shows a b i && holds i))
+  opens-count : (a b : ℕ) → one (opens s me n right a b) ≡ sumOver Limit.caps (λ i. one (shows a b i && holds i))
   unfolding opens showing presented countOver
   opens-count a b =
-      let k : ℕ = find 512 (shows a b) in
-      ap one (past-first (eqb k 0) (holds k)) ∙ find-counts 512 (shows a b) holds (one-shows a b)
+      let k : ℕ = find Limit.caps (shows a b) in
+      ap one (past-first (eqb k 0) (holds k)) ∙ find-counts Limit.caps (shows a b) holds (one-shows a b)
 
   -- and that capability is the one of which it is the opener
   shows-opener : (a b i : ℕ)
@@ -84,10 +85,10 @@ module _ (s : State) (me : ℕ) (n : Name) (right : ℕ) (F : Formed s) where
       (unlock-same (s .cap i .password) (pair a b) (s .lock me) (F .lock me))
 
   opens-sum : (a b : ℕ) → one (opens s me n right a b)
-      ≡ sumOver 512 (λ i. one ((named-so i && holds i) && samePassword (pair a b) (opener i)))
+      ≡ sumOver Limit.caps (λ i. one ((named-so i && holds i) && samePassword (pair a b) (opener i)))
   opens-sum a b =
       opens-count a b
-      ∙ sum-same 512 (λ i. one (shows a b i && holds i))
+      ∙ sum-same Limit.caps (λ i. one (shows a b i && holds i))
       (λ i. one ((named-so i && holds i) && samePassword (pair a b) (opener i)))
       (λ i p q. ap one (shows-opener a b i))
 
@@ -100,26 +101,26 @@ module _ (s : State) (me : ℕ) (n : Name) (right : ℕ) (F : Formed s) where
 
   -- each capability is opened by one password
   one-opener : (i : ℕ)
-      → sumBelow 4294967296 (λ a. sumBelow 4294967296 (λ b.
+      → sumBelow Limit.half (λ a. sumBelow Limit.half (λ b.
       one ((named-so i && holds i) && samePassword (pair a b) (opener i))))
       ≡ one (named-so i && holds i)
   unfolding samePassword
-  one-opener i = below-pair 4294967296 (opener i .p1) (opener i .p2) (named-so i && holds i)
+  one-opener i = below-pair Limit.half (opener i .p1) (opener i .p2) (named-so i && holds i)
       (λ e. let h = opener-halves i e in (h .p1, h .p2))
 
   pub opening-holding : opening s me n right ≡ holding s n right
   unfolding opening holding countOver
   opening-holding =
-      below-swap2 4294967296 512 (λ a b. one (opens s me n right a b))
+      below-swap2 Limit.half Limit.caps (λ a b. one (opens s me n right a b))
       (λ a b i. one ((named-so i && holds i) && samePassword (pair a b) (opener i))) opens-sum
-      ∙ sum-same 512 (λ i. sumBelow 4294967296 (λ a. sumBelow 4294967296 (λ b.
+      ∙ sum-same Limit.caps (λ i. sumBelow Limit.half (λ a. sumBelow Limit.half (λ b.
       one ((named-so i && holds i) && samePassword (pair a b) (opener i)))))
       (λ i. one (named-so i && holds i)) (λ i p q. one-opener i)
 
   -- an absent object has no capability
   pub none-held : objectNamed s n ≡ 0 → holding s n right ≡ 0
   unfolding holding countOver one
-  none-held z = sum-zero 512 (λ i. one (named-so i && holds i)) (λ i a b.
+  none-held z = sum-zero Limit.caps (λ i. one (named-so i && holds i)) (λ i a b.
       ap one (refuted (named-so i && holds i) (λ e.
       let x = all3 (capLives s i) (sameName (s .object (s .cap i .object) .name) n) (holds i) e in
       not-named s n (F .objects) z (s .cap i .object) (F .caps .live i (lives s i (x .0)) .owned)

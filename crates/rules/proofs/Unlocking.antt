@@ -1,11 +1,12 @@
 -- Unlocking by a lockword of a well-formed store: twice it is nothing, and it stays in the 2 to the power 64 passwords.
-use Prim.Native.Nat.{ℕ, _/_, _≤_, _<_}
-use mathlib.Core.Path.{_≡_, refl, sym, ap, ap₂, _∙_}
+use Prim.Native.Nat.{_<_}
+use mathlib.Core.Path.{_≡_, sym, ap, ap₂, _∙_}
 use mathlib.Core.Bool.{Bool, true, false}
 use native.Mathlib.Omega.{arith}
 use lib.Dec.{leb}
 use lib.Bits.{bitXor, xor-lt}
 use borrow.Author.Tests.{leb-true, le-leb}
+use Rattle.rules.specs.Limit as Limit
 use Rattle.rules.specs.Store.{Password, samePassword, Lockword}
 use Rattle.rules.specs.Valid.{LockwordFits}
 use Rattle.rules.specs.Password.{unlock}
@@ -18,7 +19,7 @@ xored p w = record { p1 = bitXor (p .p1) (w .first); p2 = bitXor (p .p2) (w .sec
 
 -- p1 is 2,147,483,648 or more
 abbrev high : Password → Bool
-high p = leb 2147483648 (p .p1)
+high p = leb Limit.top (p .p1)
 
 unlock-high : (p : Password) (w : Lockword) → high p ≡ true → unlock p w ≡ xored p w
 unfolding unlock
@@ -31,8 +32,8 @@ unlock-low p w e = pick-not (high p) (xored p w) p e
 -- the top bit is kept
 high-xored : (p : Password) (w : Lockword) → LockwordFits w → high p ≡ true → high (xored p w) ≡ true
 high-xored p w f e =
-    le-leb 2147483648 (bitXor (p .p1) (w .first))
-    (omega (arith, leb-true 2147483648 (p .p1) e, xor-top (p .p1) (w .first) (f .first)))
+    le-leb Limit.top (bitXor (p .p1) (w .first))
+    (omega (arith, leb-true Limit.top (p .p1) e, xor-top (p .p1) (w .first) (f .first)))
 
 pub unlock-twice : (p : Password) (w : Lockword) → LockwordFits w → unlock (unlock p w) w ≡ p
 unlock-twice p w f = by-bool (high p)
@@ -54,8 +55,8 @@ unlock-same p x w f = bool-same (samePassword p (unlock x w)) (samePassword x (u
 
 -- a password: two halves below 2 to the power 32
 pub record Halves (p : Password) : Type 0 where
-  pub p1 : p .p1 < 4294967296
-  pub p2 : p .p2 < 4294967296
+  pub p1 : p .p1 < Limit.half
+  pub p2 : p .p2 < Limit.half
 
 pub unlock-halves : (p : Password) (w : Lockword) → LockwordFits w → Halves p → Halves (unlock p w)
 unlock-halves p w f h = by-bool (high p)

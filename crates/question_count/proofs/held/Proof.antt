@@ -2,7 +2,7 @@
 use Prim.Native.Nat.{ℕ, _≤_}
 use mathlib.Core.List.{List, []}
 use native.Mathlib.Omega.{arith}
-use borrow.Author.Needs.{needs}
+use Rattle.rules.specs.Limit as Limit
 use Rattle.rules.specs.Slots.{one, countOver}
 use Rattle.layout.specs.View.{view}
 use Rattle.layout.proofs.Adding.{Added, added-none, added-more, added-all}
@@ -13,7 +13,7 @@ use Rattle.question_count.proofs.held.Tie as tie
 
 abbrev Inv-loop : tie.InvT-loop
 Inv-loop links o right count₀ i₀ count i =
-    (b w : List ℕ) → Added (λ k. one (holds (view b links w) o (right .0) k)) 1 512 i count
+    (b w : List ℕ) → Added (λ k. one (holds (view b links w) o (right .0) k)) 1 Limit.caps i count
 
 abbrev μ-loop : tie.MeasureT-loop
 μ-loop links o right count₀ i₀ count i = i
