@@ -117,13 +117,13 @@ module _ {m : Maps} (s t : State) (S : Formed s) (T : Formed t) (A : CarriedBy m
 
   -- ---- call 17
 
-  day-is : first (dayRefuses t c) ≡ first (dayRefuses s c)
+  day-is : first (dayRefuses t (c .day)) ≡ first (dayRefuses s (c .day))
   unfolding dayRefuses
   day-is = ap (λ d. first (Code.outOfRange when ltb Limit.day (c .day) ∷ Code.earlierDay when ltb (c .day) d ∷ [])) (A .day)
 
   day-alike : Alike (dayRule s c) (dayRule t c)
   unfolding done
-  day-alike = by-eq (first (dayRefuses s c)) Code.done
+  day-alike = by-eq (first (dayRefuses s (c .day))) Code.done
       (λ e. as-alike (day-done s c e) (day-done t c (day-is ∙ e)) (record {
         answer = refl;
         after = record { maps = m; by = set-day A (c .day) };

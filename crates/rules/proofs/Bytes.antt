@@ -200,7 +200,7 @@ module _ (s : State) (c : Call) (q : ℕ) where
   day-bytes : c .number ≡ dayNumber → Bytes s q (bytesLeft (isDone (dayRule s c))) (dayRule s c .after)
   unfolding bytesLeft bytesOf done code isDone withDay paid toHouse spend withCash withHouse
   day-bytes z = day-by s c (λ r. Bytes s q (bytesLeft (isDone r)) (r .after))
-      (λ n. subst (λ d. Bytes s q (bytesLeft d) s) (sym (refused-not (first (dayRefuses s c)) s n)) (same s q s refl refl))
+      (λ n. subst (λ d. Bytes s q (bytesLeft d) s) (sym (refused-not (first (dayRefuses s (c .day))) s n)) (same s q s refl refl))
       (λ _. subst (λ o. Bytes s q (bytesOf (paid s c) c (caller s c) (slotOf s c) q o) (withDay s (c .day)))
       (sym (host-op (c .number) z)) (same s q (withDay s (c .day)) refl refl))
 

@@ -20,7 +20,7 @@ use Rattle.rules.proofs.Tests.{by-eq, by-bool, refuted, none2, not-is-t
 use Rattle.rules.proofs.Slots.{find-finds, find-some, free-slot}
 use Rattle.rules.proofs.Ending.{end-cap, was}
 use Rattle.rules.proofs.Ready.{Ready, slotOf, ready}
-use Rattle.rules.proofs.Outcomes.{host-not}
+use Rattle.rules.proofs.Outcomes.{host-open}
 use Rattle.rules.proofs.Answers.{done-by}
 use Rattle.rules.proofs.Done.{Takes}
 use Rattle.rules.proofs.Steps.{takes-open, keep-paid}
@@ -89,15 +89,7 @@ module _ (s : State) (c : Call) (me k : ℕ) where
 
 pub choose : (s : State) (c : Call) (h : Choice) → Formed s → isDone (rule s c h) ≡ true → (g : Choice) × Open s c g
 choose s c h G = by-eq (c .number) dayNumber
-    (λ z _. (
-      h,
-      record {
-        object = λ q. absurd (host-not (c .number) z q refl);
-        made = λ q. absurd (host-not (c .number) z q refl);
-        derived = λ q. absurd (host-not (c .number) z q refl);
-        renamed = λ q. absurd (host-not (c .number) z q refl);
-      },
-    ))
+    (λ z _. (h, host-open s c h z))
     (λ p. done-by s c h (λ r. (g : Choice) × Open s c g) p (λ e f.
     let r = takes (paid s c) c (caller s c) (slotOf s c) (keep-paid s G c e .formed .caps) (op (c .number))
     (ready s c (G .objects) e f) in

@@ -18,6 +18,7 @@ use Rattle.rules.specs.Update.{withHouse, withCash, withDay}
 use Rattle.rules.specs.Changes.{spend, toHouse, setTerminated}
 use Rattle.rules.specs.Calls.{does}
 use Rattle.rules.specs.Rule.{stopped, paid, late, onPaid, processRule, dayRefuses, dayRule, rule}
+use Rattle.rules.specs.Demand.{Open}
 use Rattle.rules.proofs.Tests.{by-eq, by-bool, pick-yes, pick-not, pick-by}
 use Rattle.rules.proofs.Ready.{slotOf}
 
@@ -53,6 +54,15 @@ pub host-presents : (n : ℕ) → n ≡ dayNumber → presents (op n) ≡ true �
 unfolding presents asked
 host-presents n e p = false≢true (sym (ap presents (host-op n e)) ∙ p)
 
+-- it takes no slot
+pub host-open : (s : State) (c : Call) (h : Choice) → c .number ≡ dayNumber → Open s c h
+host-open s c h e = record {
+  object = λ q. absurd (host-not (c .number) e q refl);
+  made = λ q. absurd (host-not (c .number) e q refl);
+  derived = λ q. absurd (host-not (c .number) e q refl);
+  renamed = λ q. absurd (host-not (c .number) e q refl);
+}
+
 -- what 2, 3 and 4 leave: with 4 the caller is marked, else nothing changes
 pub stopped-by : (s : State) (c : Call) (P : State → Type 0)
     → (early s c ≡ 4 → P (setTerminated s (caller s c) true)) → P s → P (stopped s c (early s c))
@@ -77,7 +87,7 @@ module _ (s : State) (c : Call) where
     -- ---- a process's call
 
     module _ (process : c .number ≢ dayNumber) where
-      rule-process : rule s c h ≡ processRule s c h
+      pub rule-process : rule s c h ≡ processRule s c h
       unfolding rule
       rule-process = pick-not (eqb (c .number) dayNumber) (dayRule s c) (processRule s c h) (ne-eqb (c .number) dayNumber process)
 
@@ -130,32 +140,32 @@ module _ (s : State) (c : Call) where
   -- ---- call 17 by its outcomes
 
   abbrev pub day-out : Outcome
-  day-out = record { answer = code (first (dayRefuses s c)); after = s }
+  day-out = record { answer = code (first (dayRefuses s (c .day))); after = s }
 
-  pub day-refused : first (dayRefuses s c) ≢ 0 → dayRule s c ≡ day-out
+  pub day-refused : first (dayRefuses s (c .day)) ≢ 0 → dayRule s c ≡ day-out
   unfolding dayRule
-  day-refused n = pick-not (eqb (first (dayRefuses s c)) 0) (done (withDay s (c .day))) day-out (ne-eqb _ 0 n)
+  day-refused n = pick-not (eqb (first (dayRefuses s (c .day))) 0) (done (withDay s (c .day))) day-out (ne-eqb _ 0 n)
 
-  pub day-done : first (dayRefuses s c) ≡ 0 → dayRule s c ≡ done (withDay s (c .day))
+  pub day-done : first (dayRefuses s (c .day)) ≡ 0 → dayRule s c ≡ done (withDay s (c .day))
   unfolding dayRule
-  day-done e = pick-yes (eqb (first (dayRefuses s c)) 0) (done (withDay s (c .day))) day-out (eq-eqb _ 0 e)
+  day-done e = pick-yes (eqb (first (dayRefuses s (c .day))) 0) (done (withDay s (c .day))) day-out (eq-eqb _ 0 e)
 
   pub day-by : (P : Outcome → Type 0)
-      → (first (dayRefuses s c) ≢ 0 → P day-out)
-      → (first (dayRefuses s c) ≡ 0 → P (done (withDay s (c .day))))
+      → (first (dayRefuses s (c .day)) ≢ 0 → P day-out)
+      → (first (dayRefuses s (c .day)) ≡ 0 → P (done (withDay s (c .day))))
       → P (dayRule s c)
-  day-by P a b = by-eq (first (dayRefuses s c)) 0
+  day-by P a b = by-eq (first (dayRefuses s (c .day))) 0
       (λ e. subst P (sym (day-done e)) (b e)) (λ n. subst P (sym (day-refused n)) (a n))
 
   -- it never answers 4
-  pub day-not-four : first (dayRefuses s c) ≢ Code.cannotPay
+  pub day-not-four : first (dayRefuses s (c .day)) ≢ Code.cannotPay
   unfolding dayRefuses first _when_
   day-not-four z = by-bool (ltb Limit.day (c .day))
       (λ e. omega (arith, rw e at z))
       (λ e. by-bool (ltb (c .day) (s .day)) (λ f. omega (arith, rw (e, f) at z)) (λ f. omega (arith, rw (e, f) at z)))
 
   -- where it is done the new day is in its range, and not before the store's
-  pub day-fits : first (dayRefuses s c) ≡ 0 → (c .day ≤ Limit.day) × (s .day ≤ c .day)
+  pub day-fits : first (dayRefuses s (c .day)) ≡ 0 → (c .day ≤ Limit.day) × (s .day ≤ c .day)
   unfolding dayRefuses first _when_
   day-fits z = by-bool (ltb Limit.day (c .day))
       (λ e. absurd (omega (arith, rw e at z)))

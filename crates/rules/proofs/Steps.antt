@@ -140,7 +140,7 @@ module _ (s : State) (G : Formed s) (c : Call) where
     -- call 17 books nothing
     beside-day : c .number ≡ dayNumber → Beside (dayRule s c)
     unfolding done code isDone withDay book presents asked entry
-    beside-day z = day-by s c Beside (λ n. beside-refused (first (dayRefuses s c)) s n K)
+    beside-day z = day-by s c Beside (λ n. beside-refused (first (dayRefuses s (c .day))) s n K)
         (λ _. subst (Linking s) (sym (booked l c 0 (λ p. absurd (host-presents (c .number) z p)) ∙ ap (entry l c 0) (host-op (c .number) z))) K)
 
     pub link-step : (h : Choice) → Allowed s c h → Linking (rule s c h .after) (book l c (isDone (rule s c h)))

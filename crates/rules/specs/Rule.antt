@@ -45,13 +45,13 @@ processRule s c h = elim (eqb (early s c) Code.done) [
 -- ---- 02, CR 9: "The host sets the day by call 17, which has no caller and no fee"
 
 -- 2, "A day .. above 65,535"; 20, "the new day is before the store's"
-unfoldable pub dayRefuses : State → Call → List Refusal
-dayRefuses s c = Code.outOfRange when ltb Limit.day (c .day) ∷ Code.earlierDay when ltb (c .day) (s .day) ∷ []
+unfoldable pub dayRefuses : State → ℕ → List Refusal
+dayRefuses s day = Code.outOfRange when ltb Limit.day day ∷ Code.earlierDay when ltb day (s .day) ∷ []
 
 unfoldable pub dayRule : State → Call → Outcome
-dayRule s c = elim (eqb (first (dayRefuses s c)) Code.done) [
+dayRule s c = elim (eqb (first (dayRefuses s (c .day))) Code.done) [
   | true ↦ done (withDay s (c .day))
-  | false ↦ record { answer = code (first (dayRefuses s c)); after = s }
+  | false ↦ record { answer = code (first (dayRefuses s (c .day))); after = s }
 ]
 
 -- ---- all calls
