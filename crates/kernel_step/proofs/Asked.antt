@@ -140,7 +140,8 @@ module _ {b l w : List ℕ} {c : Call} {me k : ℕ} (A : OwnAsks b l w c me k) w
   pub derive-asked : op (c .number) ≡ deriveCap → DeriveAsks b l w k (c .rights)
   unfolding presents argumentsFit
   derive-asked e = derive-asks (A .late .formed) (held deriveCap e refl)
-      (leb-true _ _ (all2 (leb (c .rights) Limit.rights) (ordered (c .range)) (fits c deriveCap e (A .late .range)) .0))
+      (leb-true _ _ (all3 (leb (c .rights) Limit.rights) (ordered (c .range)) (leb (c .lastDay) Limit.day)
+      (fits c deriveCap e (A .late .range)) .0))
 
   pub delete-asked : op (c .number) ≡ deleteCap → DeleteAsks b l w k
   unfolding presents

@@ -72,6 +72,15 @@ ends-refused {c} {x} {n} {r} {was} {is} nz R e same kept = subst (λ y. Ends c y
   scratch = kept ∙ scratch-refused (op (c .number)) n (was .scratch) nz;
 })
 
+-- and so does a reply with no bytes, of a call that does not clear the scratch
+pub ends-replies : {c : Call} {x : Ran} {r : Reply} {was is : Slices} → clears (op (c .number)) ≡ false
+    → Replies r (is .bytes) (is .links) (is .words) x → is .buffer ≡ was .buffer → is .scratch ≡ was .scratch → Ends c x r was is
+ends-replies {c} {x} {r} {was} {is} free R same kept = record {
+  replies = subst (λ d. Answers (x .answer) r d (is .buffer)) same (replied R (is .buffer));
+  store = record { bytes = R .bytes; links = R .links; words = R .words };
+  scratch = kept ∙ scratch-kept (op (c .number)) (x .answer .code) (was .scratch) free;
+}
+
 -- what ends as the run x ends as an equal one
 pub ends-same : {c : Call} {x y : Ran} {r : Reply} {was is : Slices} → Ends c x r was is → x ≡ y → Ends c y r was is
 ends-same {c} {x} {y} {r} {was} {is} E e = subst (λ z. Ends c z r was is) e E
