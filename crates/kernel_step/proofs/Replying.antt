@@ -5,9 +5,10 @@ use mathlib.Core.Logic.{_≢_}
 use mathlib.Core.Bool.{true, false}
 use mathlib.Core.List.{List, []}
 use lib.ListN.{length, take}
-use Rattle.rules.specs.Rights.{Op, op}
+use Rattle.rules.specs.Rights.{Op, op, asked, dayNumber}
 use Rattle.rules.specs.Call.{Call, Answer, code}
 use Rattle.rules.proofs.Tests.{by-bool, pick-yes, pick-not}
+use Rattle.rules.proofs.Outcomes.{host-op}
 use Rattle.call_steps.specs.declared.request.Request.{Request}
 use Rattle.call_steps.specs.declared.request.Reply.{Reply}
 use Rattle.call_steps.specs.Request.{callOf, answerOf}
@@ -80,6 +81,11 @@ ends-replies {c} {x} {r} {was} {is} free R same kept = record {
   store = record { bytes = R .bytes; links = R .links; words = R .words };
   scratch = kept ∙ scratch-kept (op (c .number)) (x .answer .code) (was .scratch) free;
 }
+
+-- call 17 is such a call
+pub day-keeps : (n : ℕ) → n ≡ dayNumber → clears (op n) ≡ false
+unfolding clears asked
+day-keeps n e = ap clears (host-op n e)
 
 -- what ends as the run x ends as an equal one
 pub ends-same : {c : Call} {x y : Ran} {r : Reply} {was is : Slices} → Ends c x r was is → x ≡ y → Ends c y r was is
