@@ -1,5 +1,6 @@
 //! Random questions for the number of passwords on the reference, between the calls of random runs:
-//! the answer by a second writing, that counts capabilities, every scene met and every right asked.
+//! the answer by a second writing, that counts capabilities which are not expired, every scene met
+//! and every right asked.
 //! And the examples of the verified definitions.
 
 mod table;
@@ -25,7 +26,8 @@ fn expected(store: &Store, asked: &PasswordCount) -> (u32, u32) {
         return (NOT_RUNNING, 0);
     }
     let of = store.capabilities.iter().filter(|((name, _), _)| *name == asked.object);
-    (DONE, of.filter(|(_, found)| found.rights & asked.right == asked.right).count() as u32)
+    let of = of.filter(|(_, found)| found.rights & asked.right == asked.right);
+    (DONE, of.filter(|(_, found)| store.day <= found.last_day).count() as u32)
 }
 
 fn answered(store: &Store, asked: &PasswordCount) -> (u32, u32) {
