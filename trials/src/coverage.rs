@@ -121,8 +121,7 @@ pub struct Coverage {
 impl Coverage {
     /// Counts a call, what held before it, and its answer's code.
     pub fn note(&mut self, call: &Call, held: &[Condition], code: u32) {
-        let number = Some(call.operation.number()).filter(|number| *number <= SET_DAY);
-        let number = number.unwrap_or(0);
+        let number = counted_as(call);
         self.calls += 1;
         *self.answers.entry((number, code)).or_default() += 1;
         for condition in held {
@@ -217,6 +216,16 @@ fn pairs(call: u32) -> Vec<(u32, u32)> {
     let list = refusals(call);
     let later = |at: usize| list[at + 1..].iter().map(move |b| (at, *b));
     (0..list.len()).flat_map(later).map(|(at, b)| (list[at], b)).collect()
+}
+
+/// The number that a call is counted under: its own, or 0 for the unknown ones.
+pub fn counted_as(call: &Call) -> u32 {
+    let number = call.operation.number();
+    if number <= SET_DAY {
+        number
+    } else {
+        0
+    }
 }
 
 /// The name of a call, by its number.
