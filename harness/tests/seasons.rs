@@ -217,16 +217,15 @@ fn empties(pair: &mut Pair, random: &mut Random) -> usize {
     let before = expired(pair).len();
     let free = (0..).find(|p1| !pair.store.capabilities.contains_key(&(caller, *p1)));
     let (free, p2) = (free.expect("a p1 that is not taken"), 7);
-    let Operation::On(_, more) = derive(master, 1, MAX_DAY, Key { p1: free, ..master }) else {
-        panic!("a derive presents");
-    };
-    assert_eq!(code(pair, &on(master, more), random), NO_SPACE);
+    let child = |p1| Call { caller, ..called(derive(master, 1, MAX_DAY, Key { p1, ..master })) };
+    assert_eq!(code(pair, &child(free), random), NO_SPACE);
     for _ in 0..12 {
         let Some(place) = random.pick(&expired(pair)) else { break };
         let presented = key(place, pair);
         assert_eq!(code(pair, &on(presented, Action::DeleteCap), random), EXPIRED);
         let taken = Action::RenameObj { p1: place.1, p2 };
         assert_eq!(code(pair, &on(master, taken), random), TAKEN);
+        assert_eq!(code(pair, &child(place.1), random), TAKEN);
         // the nearest above it that is good, if that is not the master
         let good = pair.store.climb(place).into_iter();
         let good = good.filter(|at| *at != (master.name, master.p1));
