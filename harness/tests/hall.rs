@@ -3,6 +3,7 @@
 
 use harness::program::output;
 use reference::kernel::Store;
+use reference::numbers::MAX_DAY;
 use reference::script::{answer_line, read_numbers, run_script, start};
 use trials::edges::{cases, check, script as script_of};
 use trials::generate::script;
@@ -224,8 +225,13 @@ fn facts(store: &Store) -> Vec<String> {
     let capabilities = store.capabilities.iter().map(|((_, p1), c)| {
         let from = c.parent.map_or("master".into(), |parent| format!("from {parent}"));
         let window = format!("window {} to {}", c.start, c.end);
+        let season = match c.last_day {
+            MAX_DAY => String::new(),
+            last if last < store.day => format!(", last day {last}, expired"),
+            last => format!(", last day {last}"),
+        };
         format!(
-            "{p1} {}: {}, {window}, moneyword {}, {from}",
+            "{p1} {}: {}, {window}, moneyword {}{season}, {from}",
             c.p2,
             rights_by_name(c.rights),
             c.moneyword

@@ -60,7 +60,7 @@ fn random_counts() {
 const EDGES: &str = include_str!("../../crates/question_count/specs/Edges.antt");
 
 /// The lines that make the store of the examples.
-const LINES: [&str; 9] = [
+const LINES: [&str; 12] = [
     "1000 5 9",
     "1 0 1 2 128 0 8191 7 11 13",
     "5 0 1 2 7 11 13 8191 0 128 2147483658 13",
@@ -70,6 +70,9 @@ const LINES: [&str; 9] = [
     "5 0 1 2 7 21 13 2 0 64 51 13",
     "1 0 1 3 0 1 8191 8 61 13",
     "12 0 1 0 1 5 9 6 0",
+    "5 0 1 2 7 11 13 8191 0 128 0 3 71 13",
+    "5 0 1 2 7 11 13 8191 0 128 0 4 81 13",
+    "17 4",
 ];
 
 fn hall() -> Store {

@@ -39,7 +39,7 @@ pub extern "C" fn store_fresh(
     kernel_fresh::fresh(supply, [p1, p2], bytes, links, words)
 }
 
-// Makes a call: 20 numbers of a request, 9 of the reply. Where either slice has another length, nothing is written, and
+// Makes a call: 22 numbers of a request, 9 of the reply. Where either slice has another length, nothing is written, and
 // it is 1 on a store that is not well formed, else 2.
 #[no_mangle]
 pub extern "C" fn store_call(
