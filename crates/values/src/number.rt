@@ -1,4 +1,4 @@
-// Numbers of calls by name, in call order 1 to 16: of those that a product above the store makes by itself.
+// Numbers of calls by name: of those, in call order 1 to 16, that a product above the store makes by itself, and of the host's.
 
 pub const READ: u32 = 2;
 
