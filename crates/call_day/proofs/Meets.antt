@@ -1,8 +1,6 @@
 -- The run of call 17 is what the rules give: the cell of the day is in no row, and no link.
 use Prim.Native.Nat.{ℕ, _+_, _<_}
 use mathlib.Core.Path.{_≡_, refl, sym, ap, _∙_, subst}
-use mathlib.Core.Logic.{_≢_}
-use mathlib.Core.Bool.{true}
 use mathlib.Core.List.{List}
 use native.Mathlib.Omega.{arith}
 use lib.Dec.{lit<}
@@ -12,10 +10,10 @@ use Rattle.rules.specs.Limit as Limit
 use Rattle.rules.specs.Code as Code
 use Rattle.rules.specs.Store.{State}
 use Rattle.rules.specs.Rights.{dayNumber}
-use Rattle.rules.specs.Call.{Call, Outcome, code, done}
+use Rattle.rules.specs.Call.{Call, code, done}
 use Rattle.rules.specs.Refusals.{first}
 use Rattle.rules.specs.Update.{withDay}
-use Rattle.rules.specs.Rule.{dayRefuses, dayRule}
+use Rattle.rules.specs.Rule.{dayRefuses}
 use Rattle.rules.specs.Demand.{Words}
 use Rattle.rules.proofs.Tests.{by-eq}
 use Rattle.rules.proofs.Outcomes.{rule-host, host-open, day-refused, day-done}
@@ -23,11 +21,11 @@ use Rattle.layout.specs.Layout as Layout
 use Rattle.layout.specs.Rows.{field, masterOf, sizeOf, firstBlockOf, nextBlockOf, ownerOf, parentOf}
 use Rattle.layout.specs.View.{view}
 use Rattle.layout.specs.Shape.{Shape}
-use Rattle.layout.specs.WellFormed.{Sized, Cells, WellFormed}
+use Rattle.layout.specs.WellFormed.{WellFormed}
 use Rattle.layout.proofs.Field.{field-other}
 use Rattle.layout.proofs.Frame.{state-is, object-same, bytes-same, lock-same, cash-same, marks-same, box-same, cap-same, money-same}
 use Rattle.layout.proofs.Kept.{objects-kept, caps-kept, blocks-kept, cells-kept}
-use Rattle.call_steps.specs.Run.{Ran, over, outcome}
+use Rattle.call_steps.specs.Run.{over}
 use Rattle.call_steps.proofs.Meeting.{none, stopped, goes-on}
 use Rattle.call_enter.proofs.Meeting.{MeetsRule, met-rule}
 use Rattle.call_day.specs.Runs.{dayRun}

@@ -18,7 +18,6 @@ use Rattle.call_steps.specs.Run.{Ran, overlay}
 use Rattle.call_make.specs.Runs.{NewWereFree}
 use Rattle.call_enter.proofs.Meeting.{MeetsRule}
 use Rattle.kernel_step.specs.Slices.{Slices, slices, stateOf, callOn}
-use Rattle.kernel_step.specs.Run.{stepRun}
 use Rattle.kernel_step.specs.Ends.{scratchAfter, Ends, StepEnds}
 use Rattle.kernel_step.specs.Steps.{RefusalLeaves, front, Steps, Stepped}
 use Rattle.kernel_step.proofs.Meeting.{step-meets}
