@@ -70,7 +70,7 @@ fn days_set_by_anyone() {
     }
 }
 
-/// Every day once, from the first to the last; then each earlier one is refused.
+/// Every seventeenth day, from the first to the last, and after each an earlier one, which is refused.
 #[test]
 fn every_day() {
     let mut random = Random::new(72);
