@@ -99,7 +99,7 @@ module _ (S : List ℕ → Type 0) {b l w : List ℕ} (c : Call) (me : ℕ) (P :
       (λ p. ap (λ i. own s c me i h o) (sym (slot-some s me (c .presented) o p)))
       (λ p. own-any s c me found k h o p)
 
-  -- 5 or 6
+  -- 5, 19 or 6
   met-shown : first (presenting s k o) ≢ 0 → MeetsPaid S s c found (over (first (presenting s k o)) b l w)
   unfolding onPaid over code
   met-shown nz =

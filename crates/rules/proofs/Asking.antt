@@ -1,4 +1,4 @@
--- The window question has read's refusals: 2 of the two names, 3, 5 and 6. So a read inside the window that it tells is
+-- The window question has read's refusals: 2 of the two names, 3, 5, 19 and 6. So a read inside the window that it tells is
 -- refused by none but 2, 3 and 4.
 use Prim.Native.Nat.{ℕ, _≤_}
 use mathlib.Core.Path.{_≡_, refl, sym, _∙_}
@@ -56,7 +56,7 @@ module _ (s : State) (c : Call) (isRead : op (c .number) ≡ read) where
   abbrev k : ℕ
   k = windowSlot s (c .caller) (c .presented)
 
-  -- 7, and 5, 6 and 7
+  -- 7, and 5, 19, 6 and 7
   abbrev seven : List Refusal
   seven = Code.outsideWindow when not (liesIn (c .range) (s .cap k .window)) ∷ []
 

@@ -1,4 +1,4 @@
--- Two carried states refuse alike: 2 to 4, 5 and 6, and each call's own.
+-- Two carried states refuse alike: 2 to 4, 5, 19 and 6, and each call's own.
 use Prim.Native.Nat.{ℕ, _+_}
 use mathlib.Core.Path.{_≡_, refl, sym, ap, ap₂, _∙_}
 use mathlib.Core.Logic.{_≢_}

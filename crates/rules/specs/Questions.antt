@@ -13,7 +13,8 @@ use Rattle.rules.specs.Call.{Capability}
 use Rattle.rules.specs.Password.{presented}
 use Rattle.rules.specs.Refusals.{Refusal, _when_, first, nameFits, running, showing}
 
--- ---- 02, CR 3: "the window of a capability presented by a caller, under READ, with read's 1, 2, 3, 5 and 6"
+-- ---- 02, CR 3: "the window of a capability presented by a caller, under READ, with read's 1, 2, 3, 5 and 6"; CR 9: 19
+-- "right after 5 in every call and in the drive's window question"
 
 -- 0 or the refusal, and the window; a refusal's is 0 and 0
 pub record Windowed : Type 0 where
