@@ -14,6 +14,12 @@ pub const CARDS: Key = Key { name: Name { volume: 2, serial: 3 }, p1: 21, p2: 22
 pub const ROWS: Key = Key { p1: 31, p2: 32, ..CARDS };
 /// The rows without the right to read them.
 pub const BLIND: Key = Key { p1: 41, ..ROWS };
+/// The rows with all rights and with none, on the day after their last.
+pub const ENDED: Key = Key { p1: 51, ..ROWS };
+pub const ENDED_BARE: Key = Key { p1: 61, ..ROWS };
+
+/// The store's day, which is the last day of the rows.
+pub const DAY: u32 = 90;
 
 /// Where the window of the rows starts.
 const START: u32 = 77;
@@ -26,7 +32,7 @@ pub fn by_boss(pair: &mut Pair, operation: Operation, random: &mut Random) {
 }
 
 /// A weaver without cash, and bytes at random, of which two capabilities that are no masters see so
-/// many.
+/// many on this day, and two did so up to the day before.
 pub fn hall(length: u32, random: &mut Random) -> Pair {
     let store = Store::fresh(MAX_WORD, BOSS.p1, BOSS.p2);
     let mut pair = Pair { raw: encode(&store, random), store };
@@ -41,9 +47,16 @@ pub fn hall(length: u32, random: &mut Random) -> Pair {
         by_boss(&mut pair, Operation::On(CARDS, write), random);
     }
     let (start, end, limit) = (START, START + length, DEFAULT_LIMIT);
-    for (Key { p1, p2, .. }, mask) in [(ROWS, right::READ), (BLIND, MAX_RIGHTS & !right::READ)] {
-        let derive = Action::DeriveCap { mask, start, end, limit, p1, p2 };
+    let derived = [
+        (ROWS, right::READ, DAY),
+        (BLIND, MAX_RIGHTS & !right::READ, DAY),
+        (ENDED, MAX_RIGHTS, DAY - 1),
+        (ENDED_BARE, right::NONE, DAY - 1),
+    ];
+    for (Key { p1, p2, .. }, mask, last_day) in derived {
+        let derive = Action::DeriveCap { mask, start, end, limit, last_day, p1, p2 };
         by_boss(&mut pair, Operation::On(CARDS, derive), random);
     }
+    by_boss(&mut pair, Operation::SetDay { day: DAY }, random);
     pair
 }

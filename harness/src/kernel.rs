@@ -193,13 +193,12 @@ type Entry = unsafe extern "C" fn(
 fn enter(
     entry: Entry,
     raw: &mut RawStore,
-    request: &Request,
+    (numbers, text): (&[u32], &[u8]),
     buffer: &mut [u8],
     scratch: &mut [u16],
-    reply: &mut [u32; REPLY],
+    reply: &mut [u32],
 ) -> u32 {
     let RawStore { bytes, links, words } = raw;
-    let (numbers, text) = (&request.numbers, &request.text);
     // SAFETY: each pointer comes with its slice's length; the slices that are written are lent
     // for writing, and no two overlap. `store_step_unchecked` is handed well-formed stores alone.
     unsafe {
@@ -224,6 +223,11 @@ fn enter(
     }
 }
 
+/// A request's numbers and its text.
+fn handed(request: &Request) -> (&[u32], &[u8]) {
+    (&request.numbers, &request.text)
+}
+
 fn reply_of(
     entry: Entry,
     raw: &mut RawStore,
@@ -232,7 +236,7 @@ fn reply_of(
     scratch: &mut [u16],
 ) -> [u32; REPLY] {
     let mut reply = [0; REPLY];
-    let code = enter(entry, raw, request, buffer, scratch, &mut reply);
+    let code = enter(entry, raw, handed(request), buffer, scratch, &mut reply);
     assert_eq!(code, reply[0], "the code is returned, too");
     reply
 }
@@ -245,6 +249,17 @@ pub fn call(
     scratch: &mut [u16],
 ) -> [u32; REPLY] {
     reply_of(store_call, raw, request, buffer, scratch)
+}
+
+/// A call on any store, by a request and a reply of any length: its code.
+pub fn call_by(
+    raw: &mut RawStore,
+    numbers: &[u32],
+    buffer: &mut [u8],
+    scratch: &mut [u16],
+    reply: &mut [u32],
+) -> u32 {
+    enter(store_call, raw, (numbers, &[]), buffer, scratch, reply)
 }
 
 /// The type of `store_window` and `password_count`.
@@ -400,8 +415,8 @@ pub fn bill(raw: &mut RawStore, request: &[u32], reply: &mut [u32]) -> u32 {
     }
 }
 
-/// A store that the verified check has found well formed, and only `step`, `step_into` and `pick`
-/// have changed since.
+/// A store that the verified check has found well formed, and only `step`, `step_into`, `step_by`
+/// and `pick` have changed since.
 #[derive(Clone)]
 pub struct FormedStore(RawStore);
 
@@ -429,7 +444,18 @@ impl FormedStore {
         scratch: &mut [u16],
         reply: &mut [u32; REPLY],
     ) -> u32 {
-        enter(store_step_unchecked, &mut self.0, request, buffer, scratch, reply)
+        enter(store_step_unchecked, &mut self.0, handed(request), buffer, scratch, reply)
+    }
+
+    /// The same, by a request and a reply of any length.
+    pub fn step_by(
+        &mut self,
+        numbers: &[u32],
+        buffer: &mut [u8],
+        scratch: &mut [u16],
+        reply: &mut [u32],
+    ) -> u32 {
+        enter(store_step_unchecked, &mut self.0, (numbers, &[]), buffer, scratch, reply)
     }
 
     /// A pick on the store, which is not checked again: its code.

@@ -6,7 +6,7 @@ use crate::request::{
     answer, bill_request, billed, count_request, hook_request, pick_request, picked,
     window_request, Request, BILL_REPLY, COUNT_REPLY, PICK_REPLY, REPLY, WINDOW_REPLY,
 };
-use reference::call::{call_kind, Answer, Call, Key, Name};
+use reference::call::{Answer, Call, Key, Name, Operation};
 use reference::counting::PasswordCount;
 use reference::drive::{Pick, Picked};
 use reference::hooks::{Hooked, Transfer};
@@ -14,8 +14,10 @@ use reference::kernel::Store;
 use reference::numbers::*;
 use reference::royalties::{Bill, Billed};
 use std::collections::BTreeMap;
+use trials::coverage::counted_as;
 use trials::encode::encode;
 use trials::generate::Generator;
+use trials::layout::DAY;
 use trials::oracle::well_formed;
 use trials::profiles::Profile;
 use trials::random::Random;
@@ -31,17 +33,24 @@ pub struct Pair {
     pub store: Store,
 }
 
-/// What refusals leave: 1 to 3 nothing changed, 4 one byte, later ones the fee's two words; a done
-/// read leaves those, too.
+/// What refusals leave: 1 to 3 and 20 nothing changed, 4 one byte, the others the fee's two words; a
+/// done read leaves those, too.
 fn moves_only_the_fee(code: u32, before: &RawStore, after: &RawStore) -> bool {
     let bytes = differences(&before.bytes, &after.bytes);
     let words = differences(&before.words, &after.words);
     before.links == after.links
         && match code {
-            ILL_FORMED..=NOT_RUNNING => bytes == 0 && words == 0,
+            ILL_FORMED..=NOT_RUNNING | EARLIER_DAY => bytes == 0 && words == 0,
             CANNOT_PAY => bytes == 1 && words == 0,
             _ => bytes == 0 && words <= 2,
         }
+}
+
+/// What a done call 17 leaves: the day's cell, and no other changed.
+fn sets_only_the_day(day: u32, before: &RawStore, after: &RawStore) -> bool {
+    let mut expected = before.clone();
+    expected.set(DAY, 0, day as u16);
+    *after == expected
 }
 
 fn differences<T: PartialEq>(before: &[T], after: &[T]) -> usize {
@@ -64,13 +73,43 @@ fn buffer_after(bytes: &[u8], buffer: &[u8]) -> Vec<u8> {
     after
 }
 
+/// The call's request, with anything in what it does not use, a text too.
+pub fn request_of(call: &Call, random: &mut Random) -> Request {
+    let mut request = Request::new(call, random.bits() as u32);
+    if !Request::takes_text(call) && random.chance(300) {
+        let length = random.below(MAX_TRANSFER + 50) as usize;
+        request.text = random.bytes(length);
+    }
+    request
+}
+
 /// Makes the call on the raw store alone; its answer, with buffer and scratch as `expected` has them.
 pub fn call_raw(raw: &mut RawStore, call: &Call, expected: &Answer, random: &mut Random) -> Answer {
-    let request = Request::new(call, random.bits() as u32);
+    let enter = |request: &Request, buffer: &mut [u8], scratch: &mut [u16]| {
+        kernel::call(raw, request, buffer, scratch)
+    };
+    call_with(enter, call, expected, random)
+}
+
+/// Makes the call unchecked, on slices that are well formed: it gives what is expected.
+pub fn step_raw(formed: &mut FormedStore, call: &Call, expected: &Answer, random: &mut Random) {
+    let enter = |request: &Request, buffer: &mut [u8], scratch: &mut [u16]| {
+        formed.step(request, buffer, scratch)
+    };
+    assert_eq!(call_with(enter, call, expected, random), *expected, "unchecked: {call:?}");
+}
+
+fn call_with(
+    enter: impl FnOnce(&Request, &mut [u8], &mut [u16]) -> [u32; REPLY],
+    call: &Call,
+    expected: &Answer,
+    random: &mut Random,
+) -> Answer {
+    let request = request_of(call, random);
     let mut buffer = random.bytes(call.buffer);
     let mut scratch: Vec<u16> = (0..call.scratch).map(|_| random.bits() as u16).collect();
     let (lent, worked) = (buffer.clone(), scratch.clone());
-    let reply = kernel::call(raw, &request, &mut buffer, &mut scratch);
+    let reply = enter(&request, &mut buffer, &mut scratch);
     assert!(buffer == buffer_after(&expected.bytes, &lent), "buffer: {call:?}");
     assert!(
         scratch == scratch_after(request.numbers[0], expected.code, &worked),
@@ -186,9 +225,11 @@ impl Pair {
             given.code == DONE || moves_only_the_fee(given.code, &before, &self.raw),
             "changed by a refusal: {call:?}"
         );
+        if let (Operation::SetDay { day }, DONE) = (&call.operation, given.code) {
+            assert!(sets_only_the_day(*day, &before, &self.raw), "changed more: {call:?}");
+        }
         assert!(decode(&self.raw).as_ref() == Some(&self.store), "meaning: {call:?}");
-        let number = call_kind(call.operation.number()).map_or(0, |kind| kind.number);
-        *answers.entry((number, given.code)).or_default() += 1;
+        *answers.entry((counted_as(call), given.code)).or_default() += 1;
         given.code
     }
 

@@ -1,4 +1,4 @@
-//! A call as the verified kernel takes it: 20 numbers and the bytes that come with it; and its
+//! A call as the verified kernel takes it: 22 numbers and the bytes that come with it; and its
 //! reply, 9 numbers, as an answer. The questions for a window and for the number of passwords, a pick
 //! of the loom drive, a read or a write by hook and a bill of royalties have requests of their own.
 
@@ -9,7 +9,7 @@ use reference::hooks::Hooked;
 use reference::royalties::{Bill, Billed};
 
 /// The numbers of a request, in the order of the kernel's `Request`.
-pub const REQUEST: usize = 20;
+pub const REQUEST: usize = 22;
 /// The numbers of a reply, in the order of the kernel's `Reply`.
 pub const REPLY: usize = 9;
 /// The numbers of a question for a window: the caller and the capability.
@@ -51,6 +51,8 @@ const RANGE: usize = 14;
 const SUM: usize = 16;
 const LOCK: usize = 17;
 const LIMIT: usize = 19;
+const LAST_DAY: usize = 20;
+const DAY: usize = 21;
 
 impl Request {
     /// The call with `filler` in all fields that it does not use.
@@ -71,9 +73,19 @@ impl Request {
                 request.put(PRESENTED + 2, &[key.p1, key.p2]);
                 request.act(action);
             }
+            Operation::SetDay { day } => request.put(DAY, &[*day]),
             Operation::Receive | Operation::Wait | Operation::Unknown(_) => {}
         }
         request
+    }
+
+    /// Whether the call is one that takes a text.
+    pub fn takes_text(call: &Call) -> bool {
+        let action = match &call.operation {
+            Operation::On(_, action) => action,
+            _ => return false,
+        };
+        matches!(action, Action::Write { .. } | Action::Send { .. })
     }
 
     fn put(&mut self, at: usize, numbers: &[u32]) {
@@ -87,10 +99,11 @@ impl Request {
                 self.put(RANGE, &[*start, *end]);
                 self.text.clone_from(data);
             }
-            Action::DeriveCap { mask, start, end, limit, p1, p2 } => {
+            Action::DeriveCap { mask, start, end, limit, last_day, p1, p2 } => {
                 self.put(RIGHTS, &[*mask]);
                 self.put(RANGE, &[*start, *end]);
                 self.put(LIMIT, &[*limit]);
+                self.put(LAST_DAY, &[*last_day]);
                 self.put(DRAWN, &[*p1, *p2]);
             }
             Action::RenameObj { p1, p2 } => self.put(DRAWN, &[*p1, *p2]),

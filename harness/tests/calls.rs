@@ -1,13 +1,16 @@
 //! The verified calls beside the reference: the answer, every byte of the buffer and cell of the
 //! scratch, and the meaning of the whole store after each call.
 
-use harness::kernel;
-use harness::pair::{call_raw, Answers, Pair};
-use reference::call::{Action, Answer, Call, Key, Name, Operation};
+use harness::kernel::{self, FormedStore};
+use harness::lengths::other_lengths;
+use harness::pair::{call_raw, step_raw, Answers, Pair};
+use harness::request::{Request, REPLY};
+use reference::call::{Action, Answer, Call, Key, Name, Operation, SET_DAY};
 use reference::claims::check_ledger;
 use reference::kernel::Store;
 use reference::ledger::Ledger;
 use reference::numbers::*;
+use std::collections::BTreeSet;
 use trials::coverage::refusals;
 use trials::encode::encode;
 use trials::generate::Generator;
@@ -69,7 +72,7 @@ fn random_calls(first: u64) {
         }
         runs(seed, &mut answers);
     }
-    for number in 0..=16 {
+    for number in 0..=SET_DAY {
         for code in refusals(number).into_iter().chain((number > 0).then_some(DONE)) {
             let count = answers.get(&(number, code)).copied().unwrap_or(0);
             println!("call {number} answer {code}: {count}");
@@ -109,21 +112,88 @@ fn calls_on_full_stores() {
     }
 }
 
-/// A call on a store that is not well formed is answered 1 and changes nothing.
+/// A call on a store that is not well formed is answered 1 and changes nothing, a day out of range or
+/// before the store's too.
 #[test]
 fn calls_on_damaged_stores() {
     let (mut generator, mut random) = (Generator::new(PROFILES[0], 12), Random::new(12));
     let mut refused = 0;
     damaged_stores_of_runs(10, &mut random, &mut |store, mut raw, random| {
         let before = raw.clone();
-        let call = generator.next_call(store);
-        let expected = Answer { code: ILL_FORMED, ..Answer::default() };
-        assert_eq!(call_raw(&mut raw, &call, &expected, random), expected);
-        assert!(raw == before, "changed: {call:?}");
+        let days = [store.day, MAX_DAY, MAX_DAY + 1, store.day.saturating_sub(1)];
+        let days = days.map(|day| by_boss(Operation::SetDay { day }));
+        for call in days.into_iter().chain([generator.next_call(store)]) {
+            let expected = Answer { code: ILL_FORMED, ..Answer::default() };
+            assert_eq!(call_raw(&mut raw, &call, &expected, random), expected);
+            assert!(raw == before, "changed: {call:?}");
+        }
         refused += 1;
     });
     println!("{refused} damaged stores");
     assert!(refused > 1_000);
+}
+
+/// The step that is not checked, call by call, beside the one that is: the reply, the buffer, the
+/// scratch and the slices. Every call is among them, and every answer but 1.
+#[test]
+fn unchecked_steps() {
+    let mut random = Random::new(17);
+    let mut answers = Answers::new();
+    for (seed, profile) in (1..=3).flat_map(|seed| PROFILES.map(|profile| (seed, profile))) {
+        let mut generator = Generator::new(profile, seed);
+        let [supply, p1, p2] = generator.first();
+        let store = Store::fresh(supply, p1, p2);
+        let mut pair = Pair { raw: encode(&store, &mut random), store };
+        let mut formed = FormedStore::new(pair.raw.clone()).expect("a well-formed store");
+        for _ in 0..profile.calls {
+            let call = generator.next_call(&pair.store);
+            let expected = pair.store.clone().run(&call);
+            pair.call(&call, &mut random, &mut answers);
+            step_raw(&mut formed, &call, &expected, &mut random);
+            assert!(*formed.raw() == pair.raw, "otherwise unchecked: {call:?}");
+        }
+    }
+    let met = |of: fn(&(u32, u32)) -> u32| answers.keys().map(of).collect::<BTreeSet<u32>>();
+    assert_eq!(met(|(number, _)| *number), (0..=SET_DAY).collect());
+    let of_calls = (DONE..=NOT_REVIVABLE).filter(|code| *code != ILL_FORMED);
+    assert_eq!(met(|(_, code)| *code), of_calls.chain([EXPIRED, EARLIER_DAY]).collect());
+}
+
+/// A request or a reply of another length is 1 on a store that is not well formed, else 2, unchecked
+/// too. Nothing is written. So is a request of 20 numbers, as it was before there were days.
+#[test]
+fn requests_and_replies_of_other_lengths() {
+    let mut random = Random::new(18);
+    let store = Store::fresh(1_000, 5, 9);
+    let sound = encode(&store, &mut random);
+    let mut damaged = sound.clone();
+    damaged.links.fill(0);
+    let key = Key { name: BOSS, p1: 5, p2: 9 };
+    for operation in [derive(key, 7), Operation::SetDay { day: 3 }, Operation::Wait] {
+        let numbers = Request::new(&by_boss(operation), 0).numbers;
+        let mut handed = other_lengths(&numbers, REPLY, &mut random);
+        handed.push([numbers[..20].to_vec(), vec![7; REPLY]]);
+        let mut formed = FormedStore::new(sound.clone()).expect("a well-formed store");
+        for [request, reply] in handed {
+            let (lent, worked) = (random.bytes(MIN_BUFFER), vec![3; MIN_SCRATCH]);
+            let none = RawStore::default();
+            for (raw, code) in [(&sound, OUT_OF_RANGE), (&damaged, ILL_FORMED), (&none, ILL_FORMED)]
+            {
+                let mut copy = raw.clone();
+                let (mut buffer, mut scratch, mut given) =
+                    (lent.clone(), worked.clone(), reply.clone());
+                let answer =
+                    kernel::call_by(&mut copy, &request, &mut buffer, &mut scratch, &mut given);
+                assert_eq!(answer, code, "{} numbers", request.len());
+                assert!(copy == *raw && given == reply, "written");
+                assert!(buffer == lent && scratch == worked, "written");
+            }
+            let (mut buffer, mut scratch, mut given) = (lent.clone(), worked, reply.clone());
+            let answer = formed.step_by(&request, &mut buffer, &mut scratch, &mut given);
+            assert_eq!(answer, OUT_OF_RANGE, "{} numbers", request.len());
+            assert!(*formed.raw() == sound && given == reply && buffer == lent, "written");
+        }
+    }
 }
 
 const BOSS: Name = Name { volume: 0, serial: 1 };
@@ -173,6 +243,6 @@ fn key(serial: u32, random: &mut Random) -> Key {
 }
 
 fn derive(parent: Key, p1: u32) -> Operation {
-    let (mask, start, end, limit) = (MAX_RIGHTS, 0, 512, MAX_WORD);
-    Operation::On(parent, Action::DeriveCap { mask, start, end, limit, p1, p2: 7 })
+    let (mask, start, end, limit, last_day) = (MAX_RIGHTS, 0, 512, MAX_WORD, DEFAULT_LAST_DAY);
+    Operation::On(parent, Action::DeriveCap { mask, start, end, limit, last_day, p1, p2: 7 })
 }

@@ -1,6 +1,6 @@
 //! The verified count of passwords beside the reference: what it answers, and that nothing changes.
 
-use harness::hall::{by_boss, hall, BLIND, BOSS, CARDS, ROWS, WEAVER};
+use harness::hall::{by_boss, hall, BLIND, BOSS, CARDS, DAY, ROWS, WEAVER};
 use harness::kernel;
 use harness::lengths::{other_lengths, RESIZES};
 use harness::pair::{count_raw, Pair};
@@ -87,7 +87,7 @@ fn two_faults() {
             answers.insert(pair.count(&asked));
         }
     }
-    // the master and ROWS may read
+    // the master and ROWS may read, and one that is expired might
     let all = [[DONE, 0], [DONE, 2], [OUT_OF_RANGE, 0], [NOT_RUNNING, 0]];
     assert_eq!(answers, BTreeSet::from(all));
 }
@@ -98,7 +98,7 @@ fn every_right() {
     let mut random = Random::new(54);
     let mut pair = hall(64, &mut random);
     for right in right::ALL {
-        // of ROWS and BLIND each right is held by one
+        // of ROWS and BLIND each right is held by one; the expired one with all rights is left out
         assert_eq!(pair.count(&count(WEAVER.name, CARDS.name, right)), [DONE, 2]);
     }
     by_boss(&mut pair, Operation::On(BLIND, Action::DeleteCap), &mut random);
@@ -125,6 +125,46 @@ fn full_stores() {
     }
 }
 
+/// Full stores day by day: what is expired is left out, and nothing else, down to the masters.
+#[test]
+fn full_stores_day_by_day() {
+    let mut random = Random::new(59);
+    for (objects, shape) in
+        [(1, Shape::Deep), (1, Shape::Wide), (1, Shape::Random), (64, Shape::Random)]
+    {
+        let mut store = shaped(objects, 8, 512 / objects, shape, &mut random);
+        let names: Vec<Name> = store.objects.keys().copied().collect();
+        let mut counted = BTreeSet::new();
+        for day in (0..=601).chain([MAX_DAY - 600, MAX_DAY - 1, MAX_DAY]) {
+            store.day = day;
+            let pair = Pair { raw: encode(&store, &mut random), store: store.clone() };
+            let name = random.pick(&names).expect("an object");
+            let good = store.tree(name).filter(|(_, found)| found.last_day >= day).count() as u32;
+            assert_eq!(pair.count(&count(name, name, right::SEND)), [DONE, good], "day {day}");
+            counted.insert(good);
+        }
+        assert!(counted.len() > 2, "{counted:?}");
+    }
+}
+
+/// A licence is counted up to its last day, by calls: derived, then day by day.
+#[test]
+fn a_licence_day_by_day() {
+    let mut random = Random::new(60);
+    let mut pair = hall(64, &mut random);
+    let asked = count(WEAVER.name, CARDS.name, right::READ);
+    assert_eq!(pair.count(&asked), [DONE, 2]);
+    let (limit, last_day) = (DEFAULT_LIMIT, DAY + 2);
+    let derive =
+        Action::DeriveCap { mask: MAX_RIGHTS, start: 0, end: 9, limit, last_day, p1: 71, p2: 1 };
+    by_boss(&mut pair, Operation::On(CARDS, derive), &mut random);
+    // ROWS on this day, the licence up to its last, then the master alone
+    for (day, expected) in [(0, 3), (0, 3), (1, 2), (2, 2), (3, 1), (1_000, 1)] {
+        by_boss(&mut pair, Operation::SetDay { day: DAY + day }, &mut random);
+        assert_eq!(pair.count(&asked), [DONE, expected], "day {day}");
+    }
+}
+
 /// The library's numbers are those of trying every password of a cut-down space, in which there is a
 /// capability for every p1, by a process with one lockword of the space after another.
 #[test]
@@ -136,7 +176,8 @@ fn every_password_of_a_cut_down_space() {
     for p1 in space.iter().map(|(p1, _)| *p1) {
         let (_, p2) = random.pick(&space).expect("a password");
         let rights = random.between(0, MAX_RIGHTS);
-        let child = Capability { p2, parent: Some(CARDS.p1), rights, ..master };
+        let last_day = random.between(DAY - 2, DAY + 3);
+        let child = Capability { p2, parent: Some(CARDS.p1), rights, last_day, ..master };
         pair.store.capabilities.insert((CARDS.name, p1), child);
     }
     // the hall's own are outside the space, and of these each right is held by two

@@ -1,12 +1,12 @@
 //! The verified loom drive and the question for a window beside the reference: what they give,
 //! every byte of the buffer, and the meaning of the whole store after each pick.
 
-use harness::hall::{by_boss, hall, BLIND, BOSS, CARDS, ROWS, WEAVER};
+use harness::hall::{by_boss, hall, BLIND, BOSS, CARDS, DAY, ENDED, ENDED_BARE, ROWS, WEAVER};
 use harness::kernel::{self, FormedStore};
 use harness::lengths::{other_lengths, RESIZES};
 use harness::pair::{pick_by, window_raw, Pair};
 use harness::request::{pick_request, window_request, PICK_REPLY, WINDOW_REPLY};
-use reference::call::{Action, Operation};
+use reference::call::{Action, Key, Operation};
 use reference::drive::{Pick, Picked, Place, Repeat};
 use reference::numbers::*;
 use std::collections::{BTreeMap, BTreeSet};
@@ -47,7 +47,7 @@ fn random_picks() {
         println!("pick {code:>2} {scene:32}{count:>8}");
         assert!(count > 5, "not met: {scene}");
     }
-    for code in [DONE, OUT_OF_RANGE, NOT_RUNNING, NOT_FOUND, RIGHT_MISSING] {
+    for code in [DONE, OUT_OF_RANGE, NOT_RUNNING, NOT_FOUND, EXPIRED, RIGHT_MISSING] {
         let count = windows.remove(&code).unwrap_or(0);
         println!("window {code:>2} {count:>8}");
         assert!(count > 50, "not met: {code}");
@@ -99,7 +99,7 @@ const PICK: Pick = Pick {
 type Fault = fn(&mut Pick);
 
 /// Faults of the repeat and of the place, of the question, the length, and of the read.
-const FAULTS: [Fault; 11] = [
+const FAULTS: [Fault; 13] = [
     |pick| pick.repeat.picks = 0,
     |pick| pick.repeat.counts = MAX_COUNTS + 1,
     |pick| pick.repeat.row = MAX_ROW + 1,
@@ -108,6 +108,8 @@ const FAULTS: [Fault; 11] = [
     |pick| pick.key.name.serial = MAX_SERIAL + 1,
     |pick| pick.caller = CARDS.name,
     |pick| pick.key.p2 += 1,
+    |pick| pick.key.p1 = ENDED.p1,
+    |pick| pick.key.p1 = ENDED_BARE.p1,
     |pick| pick.key.p1 = BLIND.p1,
     |pick| pick.repeat.row += 1,
     |pick| pick.buffer = MIN_BUFFER - 1,
@@ -128,7 +130,7 @@ fn two_faults() {
             codes.insert(pair.pick(&pick, &mut random).code);
         }
     }
-    let all = [OUT_OF_RANGE, NOT_RUNNING, NOT_FOUND, RIGHT_MISSING, WRONG_LENGTH];
+    let all = [OUT_OF_RANGE, NOT_RUNNING, NOT_FOUND, EXPIRED, RIGHT_MISSING, WRONG_LENGTH];
     assert_eq!(codes, BTreeSet::from(all));
 }
 
@@ -171,6 +173,34 @@ fn a_repeat_with_refused_picks() {
         (pick.place, total, done) = (picked.place, total + picked.step, done + 1);
     }
     assert_eq!((pick.place, total, poor), (Place::START, REPEAT.counts, 2));
+}
+
+/// The rows' last day goes by in the middle of a repeat: from the next day on picks are refused by 19
+/// and not paid for, and the question is; under a new licence the repeat goes on from its place, and
+/// the steps total C.
+#[test]
+fn a_licence_that_ends_in_a_repeat() {
+    let mut random = Random::new(27);
+    let mut pair = hall(LENGTH, &mut random);
+    let new = Key { p1: 71, p2: 72, ..CARDS };
+    let (start, end) = pair.store.window(BOSS.name, ROWS).expect("the rows");
+    let (mask, limit, last_day) = (right::READ, DEFAULT_LIMIT, DAY + 30);
+    let derive = Action::DeriveCap { mask, start, end, limit, last_day, p1: new.p1, p2: new.p2 };
+    by_boss(&mut pair, Operation::On(CARDS, derive), &mut random);
+    let (mut pick, mut total) = (Pick { caller: BOSS.name, ..PICK }, 0);
+    for at in 0..REPEAT.picks {
+        if at == REPEAT.picks / 2 {
+            by_boss(&mut pair, Operation::SetDay { day: DAY + 1 }, &mut random);
+            assert_eq!(pair.window(pick.caller, pick.key), EXPIRED);
+            let refused = pair.pick(&pick, &mut random);
+            assert_eq!((refused.code, refused.place), (EXPIRED, pick.place));
+            pick.key = new;
+        }
+        let picked = pair.pick(&pick, &mut random);
+        assert_eq!(picked.code, DONE);
+        (pick.place, total) = (picked.place, total + picked.step);
+    }
+    assert_eq!((pick.place, total), (Place::START, REPEAT.counts));
 }
 
 /// A request or a reply of another length is 2; by the question, it is 1 on a store that is not well

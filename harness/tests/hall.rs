@@ -3,6 +3,7 @@
 
 use harness::program::output;
 use reference::kernel::Store;
+use reference::numbers::MAX_DAY;
 use reference::script::{answer_line, read_numbers, run_script, start};
 use trials::edges::{cases, check, script as script_of};
 use trials::generate::script;
@@ -94,6 +95,37 @@ fn bad_lines() {
         let mut input = b"100000 5 9\n".to_vec();
         input.extend((0..length).map(|_| random.pick(alphabet).unwrap_or(b'0')));
         compare("random bytes", &input);
+    }
+}
+
+/// Lines of call 17 and of derive_cap with each number of numbers that they may have and others, in
+/// and out of range, before and after what was lent is over.
+#[test]
+fn lines_of_days() {
+    let day = ["17 0", "17 7", "17 6", "17 7", "17 65535", "17 65536", "17 4294967295"];
+    let bad = ["17", "17 ", "17 07", "17 7 0", "17 0 1", "17 0 1 7", "17 4294967296", "017 7"];
+    let head = "5 0 1 2 7 11 13 3 0 64";
+    let rests = ["", " 41", " 41 1", " 9 42 1", " 9 7 43 1", " 9 65535 44 1", " 9 65536 45 1"];
+    let derives = rests.map(|rest| format!("{head}{rest}"));
+    let longer = [format!("{head} 9 7 8 46 1"), format!("{head} 9 7 8 9 46 1")];
+    let presents = ["21 1", "41 1", "42 1", "43 1", "44 1", "11 13"];
+    let reads = presents.map(|password| format!("2 0 1 2 7 {password} 0 1"));
+    let mut input = "100000 5 9\n1 0 1 2 128 0 8191 7 11 13\n".to_owned();
+    input += "5 0 1 2 7 11 13 8191 0 128 4294967295 6 21 1\n";
+    for line in derives.iter().chain(&longer).chain(&reads) {
+        input += &format!("{line}\n");
+    }
+    for line in day.iter().chain(&bad) {
+        input += &format!("{line}\n");
+        for read in &reads {
+            input += &format!("{read}\n");
+        }
+    }
+    input += "6 0 1 2 7 21 1\n6 0 1 2 7 11 13\n17 65535";
+    compare("days", input.as_bytes());
+    for line in day.iter().chain(&bad) {
+        compare(line, format!("1000 5 9\n{line}\n4 0 1 0 1 5 9\n").as_bytes());
+        compare(line, format!("1000 5 9\n17 7\n{line}").as_bytes());
     }
 }
 
@@ -193,8 +225,13 @@ fn facts(store: &Store) -> Vec<String> {
     let capabilities = store.capabilities.iter().map(|((_, p1), c)| {
         let from = c.parent.map_or("master".into(), |parent| format!("from {parent}"));
         let window = format!("window {} to {}", c.start, c.end);
+        let season = match c.last_day {
+            MAX_DAY => String::new(),
+            last if last < store.day => format!(", last day {last}, expired"),
+            last => format!(", last day {last}"),
+        };
         format!(
-            "{p1} {}: {}, {window}, moneyword {}, {from}",
+            "{p1} {}: {}, {window}, moneyword {}{season}, {from}",
             c.p2,
             rights_by_name(c.rights),
             c.moneyword

@@ -1,7 +1,7 @@
 //! Verified reads and writes by hook beside the reference: what they give, every byte of the
 //! buffer, and the slices after each; that a read undoes a write; and turning by itself.
 
-use harness::hall::{hall, BLIND, BOSS, CARDS, ROWS, WEAVER};
+use harness::hall::{hall, BLIND, BOSS, CARDS, ENDED, ENDED_BARE, ROWS, WEAVER};
 use harness::kernel;
 use harness::lengths::{other_lengths, RESIZES};
 use harness::pair::{call_raw, enter_hooked, hooked_raw, Answers, Pair};
@@ -109,7 +109,9 @@ fn reading(store: &Store, was: &Hooked, random: &mut Random) -> Option<Hooked> {
     let callers: Vec<(Name, [u32; 2])> = callers.map(|(name, o)| (*name, o.lockword)).collect();
     let (caller, lockword) = random.pick(&callers)?;
     let name = was.key.name;
-    let reads = |c: &Capability| c.rights & right::READ != 0 && c.sees(was.start, was.end);
+    let reads = |c: &Capability| {
+        !c.expired(store.day) && c.rights & right::READ != 0 && c.sees(was.start, was.end)
+    };
     let readers = store.tree(name).filter(|(_, capability)| reads(capability));
     // unlocking twice gives the password again
     let readers: Vec<(u32, u32)> = readers.map(|(p1, c)| unlocked(p1, c.p2, lockword)).collect();
@@ -207,7 +209,7 @@ fn beside_plain_calls() {
 /// A fault in a read or a write by hook.
 type Fault = fn(&mut Hooked);
 
-const FAULTS: [Fault; 10] = [
+const FAULTS: [Fault; 12] = [
     |hooked| hooked.caller.volume = MAX_VOLUME + 1,
     |hooked| hooked.key.name.serial = MAX_SERIAL + 1,
     |hooked| hooked.start = hooked.end + 1,
@@ -222,6 +224,8 @@ const FAULTS: [Fault; 10] = [
     },
     |hooked| hooked.caller = CARDS.name,
     |hooked| hooked.key.p2 += 1,
+    |hooked| hooked.key = ENDED,
+    |hooked| hooked.key = ENDED_BARE,
     |hooked| match &hooked.transfer {
         Transfer::Read { .. } => hooked.key = BLIND,
         Transfer::Write { .. } => hooked.key = ROWS,
@@ -245,7 +249,8 @@ fn two_faults() {
                 codes.insert(pair.clone().hooked(&spoilt, &mut random).code);
             }
         }
-        assert_eq!(codes, BTreeSet::from_iter(OUT_OF_RANGE..=OUTSIDE_WINDOW), "{hooked:?}");
+        let all = (OUT_OF_RANGE..=OUTSIDE_WINDOW).chain([EXPIRED]);
+        assert_eq!(codes, all.collect(), "{hooked:?}");
     }
 }
 

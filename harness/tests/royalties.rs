@@ -1,7 +1,7 @@
 //! Verified bills of royalties beside the reference: what they give, and the slices after each;
 //! and that a pattern's bills add up.
 
-use harness::hall::{by_boss, hall, BLIND, BOSS, CARDS, ROWS, WEAVER};
+use harness::hall::{by_boss, hall, BLIND, BOSS, CARDS, ENDED, ENDED_BARE, ROWS, WEAVER};
 use harness::kernel;
 use harness::lengths::{other_lengths, RESIZES};
 use harness::pair::{bill_raw, Pair};
@@ -145,13 +145,15 @@ fn bills_between_counts() {
 /// A fault in a bill.
 type Fault = fn(&mut Bill);
 
-const FAULTS: [Fault; 8] = [
+const FAULTS: [Fault; 10] = [
     |bill| bill.count = MAX_COUNT,
     |bill| (bill.count, bill.picks) = (bill.count.max(1), MAX_COUNT),
     |bill| bill.caller.volume = MAX_VOLUME + 1,
     |bill| bill.key.name.serial = MAX_SERIAL + 1,
     |bill| bill.caller = CARDS.name,
     |bill| bill.key.p2 += 1,
+    |bill| bill.key.p1 = ENDED.p1,
+    |bill| bill.key.p1 = ENDED_BARE.p1,
     |bill| bill.key.p1 = CLOSED.p1,
     |bill| bill.picks = 100_000,
 ];
@@ -171,8 +173,16 @@ fn two_faults() {
             codes.insert(pair.clone().bill(&spoilt, &mut random).code);
         }
     }
-    let all =
-        [OUT_OF_RANGE, NOT_RUNNING, CANNOT_PAY, NOT_FOUND, RIGHT_MISSING, TOO_LITTLE, COUNT_PASSES];
+    let all = [
+        OUT_OF_RANGE,
+        NOT_RUNNING,
+        CANNOT_PAY,
+        NOT_FOUND,
+        EXPIRED,
+        RIGHT_MISSING,
+        TOO_LITTLE,
+        COUNT_PASSES,
+    ];
     assert_eq!(codes, BTreeSet::from(all));
 }
 
@@ -228,7 +238,7 @@ fn a_list_of_bills() {
     let (mut count, mut total, mut fees) = (0, 0, 0);
     let each = [24, 1, 0, 999, 9_999, 33, 50_000, 7, 400_000_000];
     // with the last fault a bill could be done
-    let mut turns = each.iter().cycle().zip(FAULTS[..7].iter().cycle());
+    let mut turns = each.iter().cycle().zip(FAULTS[..9].iter().cycle());
     while count < MAX_COUNT {
         let (picks, fault) = turns.next().expect("a turn");
         let mut spoilt = bill(count, 1);

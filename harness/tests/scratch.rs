@@ -78,12 +78,16 @@ fn deleted_at_each_link() {
     }
 }
 
-/// The master is deleted, and all with it.
+/// The master is deleted, and all with it, also on a day when many are expired.
 #[test]
 fn deleted_at_the_master() {
     let mut random = Random::new(15);
-    for shape in SHAPES {
+    for (shape, day) in SHAPES.into_iter().flat_map(|shape| [(shape, 0), (shape, MAX_DAY)]) {
         let mut pair = full(shape, &mut random);
+        pair.store.day = day;
+        pair.raw = encode(&pair.store, &mut random);
+        let expired = pair.store.capabilities.values().filter(|c| c.expired(day)).count();
+        assert!((expired > 50) == (day > 0), "{expired} expired on day {day}");
         let delete = Operation::On(master(&pair.store), Action::DeleteCap);
         assert_eq!(beside(&mut pair, delete, &mut random), DONE);
         assert!(pair.store.capabilities.is_empty() && pair.store.objects.is_empty());

@@ -1,4 +1,5 @@
-//! The 16 calls of 01 as values: names, arguments, rights, fees and answers.
+//! The 16 calls of 01 and the host's call of 02 as values: names, arguments, rights, fees and
+//! answers.
 
 use crate::numbers::{right, Refusal};
 
@@ -20,6 +21,7 @@ pub struct Key {
 /// One call with everything the host hands over with it.
 #[derive(Clone, Debug, PartialEq, Eq)]
 pub struct Call {
+    /// Who calls; not looked at where the operation has no caller.
     pub caller: Name,
     pub operation: Operation,
     /// Length in bytes of the answer buffer.
@@ -28,7 +30,8 @@ pub struct Call {
     pub scratch: usize,
 }
 
-/// What is called: a call that presents no capability, one that does, or an unknown number.
+/// What is called: a call that presents no capability, one that does, the host's, or an unknown
+/// number.
 #[derive(Clone, Debug, PartialEq, Eq)]
 pub enum Operation {
     /// `drawn` is the new object's name and its master's password.
@@ -41,6 +44,10 @@ pub enum Operation {
     Receive,
     Wait,
     On(Key, Action),
+    /// 02, CR 9: "The host sets the day by call 17, which has no caller and no fee".
+    SetDay {
+        day: u32,
+    },
     Unknown(u32),
 }
 
@@ -50,7 +57,7 @@ pub enum Action {
     Read { start: u32, end: u32 },
     Write { start: u32, end: u32, data: Vec<u8> },
     CapInfo,
-    DeriveCap { mask: u32, start: u32, end: u32, limit: u32, p1: u32, p2: u32 },
+    DeriveCap { mask: u32, start: u32, end: u32, limit: u32, last_day: u32, p1: u32, p2: u32 },
     DeleteCap,
     RenameObj { p1: u32, p2: u32 },
     Withdraw { sum: u32 },
@@ -94,21 +101,30 @@ pub const CALLS: [CallKind; 16] = [
     kind(16, "revive", 5, right::REVIVE),
 ];
 
-/// A call of the 16 by its number; none for an unknown number.
+/// The number of the host's call, which has no caller, no fee and no right: it is none of the 16.
+pub const SET_DAY: u32 = 17;
+
+/// A call of the 16 by its number; none for the host's call and for an unknown number.
 pub fn call_kind(number: u32) -> Option<&'static CallKind> {
     CALLS.iter().find(|kind| kind.number == number)
 }
 
 impl Operation {
-    /// The call number: 1 to 16, or the unknown one.
+    /// The call number: 1 to 17, or the unknown one.
     pub fn number(&self) -> u32 {
         match self {
             Operation::MakeObj { .. } => 1,
             Operation::On(_, action) => action.number(),
             Operation::Receive => 14,
             Operation::Wait => 15,
+            Operation::SetDay { .. } => SET_DAY,
             Operation::Unknown(number) => *number,
         }
+    }
+
+    /// Whether a process makes it, and pays for it; the host's call has no caller.
+    pub fn has_caller(&self) -> bool {
+        !matches!(self, Operation::SetDay { .. })
     }
 }
 

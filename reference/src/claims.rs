@@ -31,7 +31,7 @@ impl CheckedRun {
     }
 
     /// Runs a call, feeds the ledger, and checks demand 3, the money total, the store, that no
-    /// process with mail waits, and what a refusal changes.
+    /// process with mail waits, what a refusal changes, and that the day is the host's.
     pub fn run(&mut self, call: &Call) -> Checked<Answer> {
         let before = self.store.clone();
         let ended = ended_by(&self.ledger, call);
@@ -43,6 +43,10 @@ impl CheckedRun {
         well_formed(&self.store)?;
         check_ledger(&self.store, &self.ledger)?;
         check_mail(&self.store)?;
+        match call.operation {
+            Operation::SetDay { day } if done => check_set_day(&before, &self.store, day)?,
+            _ => ensure(self.store.day == before.day, || "the day".into())?,
+        }
         match ended {
             Some(ended) if done => check_delete(before, &self.store, &ended)?,
             _ if !done => check_refusal(before, &self.store, call, &answer)?,
@@ -85,14 +89,20 @@ fn check_delete(before: Store, after: &Store, ended: &BTreeSet<Place>) -> Checke
     ensure(expected == after.capabilities, || format!("delete ended other than {ended:?}"))
 }
 
-/// A refused call changed nothing for 2 and 3, terminated the caller for 4, and moved only the
+/// A done call 17 set the day, which is not before the old one, and changed nothing else.
+fn check_set_day(before: &Store, after: &Store, day: u32) -> Checked {
+    let set = before.day <= day && *after == Store { day, ..before.clone() };
+    ensure(set, || format!("day {day} after {}", before.day))
+}
+
+/// A refused call changed nothing for 2, 3 and 20, terminated the caller for 4, and moved only the
 /// fee for all others; the answer's other fields are 0.
 fn check_refusal(before: Store, after: &Store, call: &Call, answer: &Answer) -> Checked {
     let mut expected = before;
     let fee = call_kind(call.operation.number()).map_or(0, |kind| kind.fee);
     if let Some(caller) = expected.objects.get_mut(&call.caller) {
         match answer.code {
-            OUT_OF_RANGE | NOT_RUNNING => {}
+            OUT_OF_RANGE | NOT_RUNNING | EARLIER_DAY => {}
             CANNOT_PAY => caller.terminated = true,
             _ => {
                 caller.cash -= fee;
@@ -136,8 +146,8 @@ fn match_lines<'a>(store: &'a Store, ledger: &Ledger) -> Checked<Vec<Option<&'a 
     Ok(matched)
 }
 
-/// For a living giver and a living holder whose line leads back to it: same object, and the
-/// holder's rights and window lie in the giver's.
+/// For a living giver and a living holder whose line leads back to it: same object, the holder's
+/// rights and window lie in the giver's, and the giver's last day is at or after the holder's.
 fn check_givers(ledger: &Ledger, matched: &[Option<&Capability>]) -> Checked {
     for (at, holder) in matched.iter().enumerate() {
         let Some(holder) = holder else { continue };
@@ -151,9 +161,11 @@ fn check_givers(ledger: &Ledger, matched: &[Option<&Capability>]) -> Checked {
     Ok(())
 }
 
-/// Whether rights and window lie in another's.
+/// Whether rights, window and last day lie in another's.
 fn lies_in(inner: &Capability, outer: &Capability) -> bool {
-    inner.rights & outer.rights == inner.rights && outer.sees(inner.start, inner.end)
+    inner.rights & outer.rights == inner.rights
+        && outer.sees(inner.start, inner.end)
+        && inner.last_day <= outer.last_day
 }
 
 /// The purse equation: each living capability's moneyword is its line's balance.
@@ -210,8 +222,9 @@ fn masters(store: &Store) -> Checked<BTreeMap<Place, Place>> {
     Ok(masters)
 }
 
-/// 01's well-formed store, in meaning: ranges, counts, one tree for each object, children
-/// within their parents, and the money total. Names and each object's p1 are unique by the maps.
+/// A well-formed store, in meaning: ranges, counts, one tree for each object, children within their
+/// parents, a master's last day, and the money total. Names and each object's p1 are unique by the
+/// maps.
 pub fn well_formed(store: &Store) -> Checked {
     check_counts(store)?;
     for (name, object) in &store.objects {
@@ -219,8 +232,8 @@ pub fn well_formed(store: &Store) -> Checked {
         let sound = in_range && object_in_range(object);
         ensure(sound, || format!("object {name:?}"))?;
         let masters = store.tree(*name).filter(|(_, c)| c.parent.is_none());
-        let windows: Vec<_> = masters.map(|(_, c)| (c.start, c.end)).collect();
-        let one = windows == [(0, object.size())];
+        let masters: Vec<_> = masters.map(|(_, c)| (c.start, c.end, c.last_day)).collect();
+        let one = masters == [(0, object.size(), MAX_DAY)];
         ensure(one, || format!("master of {name:?}"))?;
     }
     masters(store)?;
@@ -242,8 +255,9 @@ fn check_counts(store: &Store) -> Checked {
     let within = store.objects.len() <= MAX_OBJECTS
         && store.capabilities.len() <= MAX_CAPS
         && blocks <= MAX_BLOCKS
+        && store.day <= MAX_DAY
         && money_total(store) <= u64::from(MAX_WORD);
-    ensure(within, || "counts or money total".into())
+    ensure(within, || "counts, day or money total".into())
 }
 
 fn object_in_range(object: &Object) -> bool {

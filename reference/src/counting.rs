@@ -1,5 +1,6 @@
 //! 02's count of passwords, a free question: "the number of the 2 to the power 64 passwords which,
-//! presented by a named process for one object and one right, would get past 5 and 6".
+//! presented by a named process for one object and one right, would get past 5 and 6", and past 19
+//! between the two: the count "leaves expired ones out".
 //!
 //! So many cannot be tried. A password is looked up as it stands or XORed with the process's
 //! lockword, so one that finds a capability is that capability's own or its own so XORed: these two
@@ -42,13 +43,13 @@ pub struct PasswordCount {
 }
 
 impl PasswordCount {
-    /// Whether a password would get past 5 and 6.
+    /// Whether a password would get past 5, 19 and 6.
     fn opens(&self, store: &Store, (p1, p2): Password) -> bool {
         let key = Key { name: self.object, p1, p2 };
         store.presented(self.caller, key, self.right).is_ok()
     }
 
-    /// How many of these passwords, which are all different, would get past 5 and 6.
+    /// How many of these passwords, which are all different, would get past 5, 19 and 6.
     pub fn among(&self, store: &Store, passwords: impl IntoIterator<Item = Password>) -> u32 {
         passwords.into_iter().filter(|password| self.opens(store, *password)).count() as u32
     }

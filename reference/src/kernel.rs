@@ -1,4 +1,5 @@
-//! The kernel of 01 over ordinary maps: one function per call, refusals in 01's order.
+//! The kernel of 01 and 02 over ordinary maps: one function per call, refusals in the papers'
+//! order.
 
 use crate::call::{call_kind, Action, Answer, Call, Key, Name, Operation};
 use crate::numbers::*;
@@ -36,17 +37,20 @@ pub struct Capability {
     pub start: u32,
     pub end: u32,
     pub rights: u32,
+    /// The last day on which it can be presented.
+    pub last_day: u32,
 }
 
 /// Where a capability is kept: its object and its p1.
 pub type Place = (Name, u32);
 
-/// The store in meaning: objects by name, capabilities by object and p1, and the house.
+/// The store in meaning: objects by name, capabilities by object and p1, the house, and the day.
 #[derive(Clone, Debug, Default, PartialEq, Eq)]
 pub struct Store {
     pub objects: BTreeMap<Name, Object>,
     pub capabilities: BTreeMap<Place, Capability>,
     pub house: u32,
+    pub day: u32,
 }
 
 /// The four parts of the money total, in the order of the script's `T` line.
@@ -81,6 +85,11 @@ impl Capability {
     /// Whether a range lies in the window, also when it is empty.
     pub fn sees(&self, start: u32, end: u32) -> bool {
         self.start <= start && end <= self.end
+    }
+
+    /// Whether a day is after its last day.
+    pub fn expired(&self, day: u32) -> bool {
+        day > self.last_day
     }
 
     /// The nearest point of the window.
@@ -180,8 +189,15 @@ impl Store {
     }
 
     fn add_master(&mut self, key: Key, size: u32, rights: u32, moneyword: u32) {
-        let master =
-            Capability { p2: key.p2, parent: None, moneyword, start: 0, end: size, rights };
+        let master = Capability {
+            p2: key.p2,
+            parent: None,
+            moneyword,
+            start: 0,
+            end: size,
+            rights,
+            last_day: MAX_DAY,
+        };
         self.capabilities.insert((key.name, key.p1), master);
     }
 }
@@ -195,9 +211,11 @@ fn check_arguments(call: &Call) -> Result<(), Refusal> {
         Operation::Receive => call.buffer >= MIN_BUFFER,
         Operation::Wait => true,
         Operation::On(key, action) => in_range(key.name) && action_in_range(call, action),
+        Operation::SetDay { day } => *day <= MAX_DAY,
         Operation::Unknown(_) => false,
     };
-    refuse_if(!(ranges && in_range(call.caller)), Refusal::OutOfRange)
+    let caller = !call.operation.has_caller() || in_range(call.caller);
+    refuse_if(!(ranges && caller), Refusal::OutOfRange)
 }
 
 pub(crate) fn in_range(name: Name) -> bool {
@@ -210,7 +228,9 @@ fn action_in_range(call: &Call, action: &Action) -> bool {
         Action::Write { start, end, data } => {
             short_range(*start, *end) && data.len() == (*end - *start) as usize
         }
-        Action::DeriveCap { mask, start, end, .. } => *mask <= MAX_RIGHTS && start <= end,
+        Action::DeriveCap { mask, start, end, last_day, .. } => {
+            *mask <= MAX_RIGHTS && start <= end && *last_day <= MAX_DAY
+        }
         Action::DeleteCap | Action::RenameObj { .. } => call.scratch >= MIN_SCRATCH,
         Action::ApplyLock { words } => words[0] < TOP,
         Action::Send { message, .. } => message.len() <= MAX_MESSAGE,
@@ -232,8 +252,10 @@ impl Store {
 
     fn attempt(&mut self, call: &Call) -> Outcome {
         check_arguments(call)?;
-        self.check_caller(call.caller)?;
-        self.pay_fee(call)?;
+        if call.operation.has_caller() {
+            self.check_caller(call.caller)?;
+            self.pay_fee(call)?;
+        }
         match &call.operation {
             Operation::MakeObj { size, flag, rights, drawn } => {
                 self.make_obj(*drawn, *size, *flag == 1, *rights)
@@ -241,6 +263,7 @@ impl Store {
             Operation::Receive => self.receive(call.caller),
             Operation::Wait => self.wait(call.caller),
             Operation::On(key, action) => self.act(call.caller, *key, action),
+            Operation::SetDay { day } => self.set_day(*day),
             Operation::Unknown(_) => Err(Refusal::OutOfRange),
         }
     }
@@ -264,15 +287,17 @@ impl Store {
         Ok(())
     }
 
-    /// Refusals 5 and 6: the capability that is presented, which must have the right.
+    /// Refusals 5, 19, which is "right after 5 in every call", and 6: the capability that is
+    /// presented, which must not be expired and must have the right.
     pub(crate) fn presented(&self, caller: Name, key: Key, right: u32) -> Result<Place, Refusal> {
         let at = self.find(caller, key).ok_or(Refusal::NotFound)?;
-        let rights = self.capability(at)?.rights;
-        refuse_if(rights & right == 0, Refusal::RightMissing)?;
+        let found = self.capability(at)?;
+        refuse_if(found.expired(self.day), Refusal::Expired)?;
+        refuse_if(found.rights & right == 0, Refusal::RightMissing)?;
         Ok(at)
     }
 
-    /// A call that presents a capability: refusals 5 and 6, then the call itself.
+    /// A call that presents a capability: refusals 5, 19 and 6, then the call itself.
     fn act(&mut self, caller: Name, key: Key, action: &Action) -> Outcome {
         let right = call_kind(action.number()).map_or(0, |kind| kind.right);
         let at = self.presented(caller, key, right)?;
@@ -280,8 +305,9 @@ impl Store {
             Action::Read { start, end } => self.read(at, *start, *end),
             Action::Write { start, end, data } => self.write(at, *start, *end, data),
             Action::CapInfo => self.cap_info(at),
-            Action::DeriveCap { mask, start, end, limit, p1, p2 } => {
-                self.derive_cap(at, *mask, (*start, *end), *limit, (*p1, *p2))
+            Action::DeriveCap { mask, start, end, limit, last_day, p1, p2 } => {
+                let most = (*limit, *last_day);
+                self.derive_cap(at, *mask, (*start, *end), most, (*p1, *p2))
             }
             Action::DeleteCap => self.delete_cap(at),
             Action::RenameObj { p1, p2 } => self.rename_obj(at, *p1, *p2),
@@ -343,7 +369,7 @@ impl Store {
         at: Place,
         mask: u32,
         (start, end): (u32, u32),
-        limit: u32,
+        (limit, last_day): (u32, u32),
         (p1, p2): (u32, u32),
     ) -> Outcome {
         let name = at.0;
@@ -358,6 +384,7 @@ impl Store {
             start: parent.nearest(start),
             end: parent.nearest(end),
             rights: parent.rights & mask,
+            last_day: last_day.min(parent.last_day),
         };
         self.capabilities.insert((name, p1), child);
         Ok(new_capability(Key { name, p1, p2 }))
@@ -449,6 +476,13 @@ impl Store {
         Ok(Answer::default())
     }
 
+    /// The host's call: refusal 20, or the day is the store's.
+    fn set_day(&mut self, day: u32) -> Outcome {
+        refuse_if(day < self.day, Refusal::EarlierDay)?;
+        self.day = day;
+        Ok(Answer::default())
+    }
+
     fn revive(&mut self, caller: Name, at: Place, sum: u32) -> Outcome {
         let target = self.process(at)?;
         refuse_if(!target.terminated || sum == 0, Refusal::NotRevivable)?;
@@ -468,7 +502,7 @@ fn new_capability(capability: Key) -> Answer {
 /// 02's question about a window, which is free and changes nothing.
 impl Store {
     /// The start and end of the window "of a capability presented by a caller, under READ, with
-    /// read's 1, 2, 3, 5 and 6".
+    /// read's 1, 2, 3, 5 and 6", and 19 right after 5.
     pub fn window(&self, caller: Name, key: Key) -> Result<(u32, u32), Refusal> {
         let ranges = in_range(caller) && in_range(key.name);
         refuse_if(!ranges, Refusal::OutOfRange)?;

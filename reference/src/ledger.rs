@@ -1,5 +1,6 @@
 //! 01's ledger of a run: fed each call's number, caller and arguments and whether it was done,
-//! nothing of the store.
+//! nothing of the store. 02's call 17 "changes nothing in the ledger", and an expired capability's
+//! line lives on until it ends as any.
 
 use crate::call::{Action, Call, Key, Name, Operation};
 use crate::kernel::unlocked;

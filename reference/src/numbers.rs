@@ -40,9 +40,14 @@ pub const NOT_REVIVABLE: u32 = 16;
 pub const WRONG_LENGTH: u32 = 17;
 /// 02, CR 7: "the count would pass 4,294,967,295"
 pub const COUNT_PASSES: u32 = 18;
+/// 02, CR 9: "the store's day is after the capability's last day"
+pub const EXPIRED: u32 = 19;
+/// "the new day is before the store's"
+pub const EARLIER_DAY: u32 = 20;
 
-/// 01's refusals 2 to 16, and of 02 the loom drive's own, 17, and that of royalties, 18. Refusal 1
-/// has no case: a store over maps that began fresh is always well formed.
+/// 01's refusals 2 to 16, and of 02 the loom drive's own, 17, that of royalties, 18, and those of
+/// season licences, 19 and 20. Refusal 1 has no case: a store over maps that began fresh is always
+/// well formed.
 #[repr(u32)]
 #[derive(Clone, Copy, Debug, PartialEq, Eq, PartialOrd, Ord)]
 pub enum Refusal {
@@ -63,6 +68,8 @@ pub enum Refusal {
     NotRevivable = NOT_REVIVABLE,
     WrongLength = WRONG_LENGTH,
     CountPasses = COUNT_PASSES,
+    Expired = EXPIRED,
+    EarlierDay = EARLIER_DAY,
 }
 
 impl Refusal {
@@ -103,6 +110,10 @@ pub const TOP: u32 = 2_147_483_648;
 pub const MAX_WORD: u32 = 4_294_967_295;
 /// 02, CR 1: the limit of a derive_cap line that has none, which "behaves as before"
 pub const DEFAULT_LIMIT: u32 = MAX_WORD;
+/// 02, CR 9: "The store holds a day, 0 to 65,535"; "A master's is 65,535", of last days
+pub const MAX_DAY: u32 = 65_535;
+/// The last day of a derive_cap line that has none: "a line without it takes the parent's"
+pub const DEFAULT_LAST_DAY: u32 = MAX_DAY;
 /// "lines of at most 2,048 bytes ended by byte 10, which is not counted"
 pub const MAX_LINE: usize = 2_048;
 /// 02, CR 3: "N picks, 1 to 65,535"

@@ -1,8 +1,8 @@
 //! 01's script and its output: lines of numbers in, one line of numbers for each answer out.
 
-use crate::call::{Action, Answer, Call, Key, Name, Operation};
+use crate::call::{Action, Answer, Call, Key, Name, Operation, SET_DAY};
 use crate::kernel::{Store, Totals};
-use crate::numbers::{DEFAULT_LIMIT, DONE, MAX_LINE, MIN_BUFFER, MIN_SCRATCH, OUT_OF_RANGE};
+use crate::numbers::*;
 use std::io::{self, BufRead, Write};
 
 /// Runs a script from `input` and writes its output to `output`.
@@ -158,13 +158,15 @@ impl Rest<'_> {
     }
 }
 
-/// The call of a line: call number, caller, the capability where one is presented, arguments.
-/// None when the numbers are too few or too many for the call, or a byte is above 255.
+/// The call of a line: call number, caller, the capability where one is presented, arguments; of
+/// the host's call, which has no caller, "`17` and the day". None when the numbers are too few or
+/// too many for the call, or a byte is above 255.
 pub fn read_call(numbers: &[u32]) -> Option<Call> {
     let mut rest = Rest(numbers);
     let number = rest.number()?;
-    let caller = rest.name()?;
+    let caller = if number == SET_DAY { Name::default() } else { rest.name()? };
     let operation = match number {
+        SET_DAY => Operation::SetDay { day: rest.number()? },
         1 => read_make_obj(&mut rest)?,
         14 => Operation::Receive,
         15 => Operation::Wait,
@@ -202,8 +204,9 @@ fn read_action(number: u32, rest: &mut Rest) -> Option<Action> {
         5 => {
             let [mask, start, end] = rest.numbers()?;
             let limit = if rest.0.len() == 2 { DEFAULT_LIMIT } else { rest.number()? };
+            let last_day = if rest.0.len() == 2 { DEFAULT_LAST_DAY } else { rest.number()? };
             let [p1, p2] = rest.numbers()?;
-            Action::DeriveCap { mask, start, end, limit, p1, p2 }
+            Action::DeriveCap { mask, start, end, limit, last_day, p1, p2 }
         }
         6 => Action::DeleteCap,
         7 => {
@@ -224,7 +227,9 @@ fn read_action(number: u32, rest: &mut Rest) -> Option<Action> {
 /// The numbers of a call's line, whole: `read_call` reads the call back from them.
 pub fn call_numbers(call: &Call) -> Vec<u32> {
     let mut numbers = vec![call.operation.number()];
-    numbers.extend([call.caller.volume, call.caller.serial]);
+    if call.operation.has_caller() {
+        numbers.extend([call.caller.volume, call.caller.serial]);
+    }
     match &call.operation {
         Operation::MakeObj { size, flag, rights, drawn } => {
             numbers.extend([drawn.name.volume, *size, *flag, *rights]);
@@ -234,6 +239,7 @@ pub fn call_numbers(call: &Call) -> Vec<u32> {
             numbers.extend(key_numbers(*key));
             numbers.extend(action_numbers(action));
         }
+        Operation::SetDay { day } => numbers.push(*day),
         Operation::Receive | Operation::Wait | Operation::Unknown(_) => {}
     }
     numbers
@@ -247,8 +253,8 @@ fn action_numbers(action: &Action) -> Vec<u32> {
     match action {
         Action::Read { start, end } => vec![*start, *end],
         Action::Write { start, end, data } => with_bytes(&[*start, *end], data),
-        Action::DeriveCap { mask, start, end, limit, p1, p2 } => {
-            vec![*mask, *start, *end, *limit, *p1, *p2]
+        Action::DeriveCap { mask, start, end, limit, last_day, p1, p2 } => {
+            vec![*mask, *start, *end, *limit, *last_day, *p1, *p2]
         }
         Action::RenameObj { p1, p2 } => vec![*p1, *p2],
         Action::Withdraw { sum } | Action::Deposit { sum } | Action::Revive { sum } => vec![*sum],

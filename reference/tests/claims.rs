@@ -4,7 +4,7 @@ use reference::call::Name;
 use reference::claims::{check_ledger, well_formed, CheckedRun};
 use reference::kernel::{Capability, Message, Place, Store};
 use reference::ledger::Ledger;
-use reference::numbers::{DONE, MAX_MESSAGE, MAX_RIGHTS, TOP};
+use reference::numbers::{DONE, MAX_DAY, MAX_MESSAGE, MAX_RIGHTS, TOP};
 use reference::script::{read_call, read_numbers};
 
 const NAME: Name = Name { volume: 2, serial: 7 };
@@ -12,12 +12,13 @@ const MASTER: Place = (NAME, 11);
 const CHILD: Place = (NAME, 21);
 const GRANDCHILD: Place = (NAME, 31);
 
-/// A process 2/7 with a child, a grandchild and a second child, and money in its purse.
+/// A process 2/7 with a child, a grandchild and a second child, and money in its purse. The first
+/// child's last day is 30, the grandchild's 20.
 const LINES: [&str; 9] = [
     "1 0 1 2 128 1 8191 7 11 13",
     "9 0 1 2 7 11 13 100",
-    "5 0 1 2 7 11 13 207 32 96 21 22",
-    "5 0 1 2 7 21 22 15 64 96 31 32",
+    "5 0 1 2 7 11 13 207 32 96 4294967295 30 21 22",
+    "5 0 1 2 7 21 22 15 64 96 4294967295 20 31 32",
     "5 0 1 2 7 11 13 8191 0 128 41 42",
     "8 0 1 2 7 21 22 30",
     "9 0 1 2 7 41 42 20",
@@ -50,6 +51,8 @@ const SPOILT_CLAIMS: &[Spoil] = &[
     ("wider rights", |s| capability(s, GRANDCHILD).rights |= 16),
     ("an earlier start", |s| capability(s, GRANDCHILD).start = 31),
     ("a later end", |s| capability(s, GRANDCHILD).end = 97),
+    ("a later last day", |s| capability(s, GRANDCHILD).last_day = 31),
+    ("a giver's earlier last day", |s| capability(s, CHILD).last_day = 19),
     ("a lost capability", |s| {
         s.capabilities.remove(&GRANDCHILD);
     }),
@@ -72,6 +75,11 @@ const SPOILT_STORES: &[Spoil] = &[
     ("a later end", |s| capability(s, GRANDCHILD).end = 97),
     ("a crossed window", |s| capability(s, GRANDCHILD).start = 97),
     ("a master's window", |s| capability(s, MASTER).end = 127),
+    ("a later last day", |s| capability(s, GRANDCHILD).last_day = 31),
+    ("a parent's earlier last day", |s| capability(s, CHILD).last_day = 19),
+    ("a master's last day", |s| capability(s, MASTER).last_day = MAX_DAY - 1),
+    ("a master's last day out of range", |s| capability(s, MASTER).last_day = MAX_DAY + 1),
+    ("the day", |s| s.day = MAX_DAY + 1),
     ("a lockword", |s| {
         s.objects.get_mut(&NAME).unwrap().lockword[0] = TOP;
     }),
@@ -103,6 +111,25 @@ fn spoilt_stores_are_found() {
         let mut spoilt = store.clone();
         spoil(&mut spoilt);
         assert!(well_formed(&spoilt).is_err(), "{what}");
+    }
+}
+
+/// What leaves a store well formed and beside its ledger: the holder's last day at the giver's, and
+/// any day.
+#[test]
+fn sound_days_are_kept() {
+    let CheckedRun { store, ledger } = run();
+    let sound: [fn(&mut Store); 4] = [
+        |s| capability(s, GRANDCHILD).last_day = 30,
+        |s| capability(s, CHILD).last_day = 20,
+        |s| capability(s, GRANDCHILD).last_day = 0,
+        |s| s.day = MAX_DAY,
+    ];
+    for change in sound {
+        let mut changed = store.clone();
+        change(&mut changed);
+        assert_eq!(well_formed(&changed), Ok(()));
+        assert_eq!(check_ledger(&changed, &ledger), Ok(()));
     }
 }
 

@@ -28,7 +28,8 @@ fn hall() -> Store {
 
 /// Adds a capability for the object.
 fn add(store: &mut Store, name: Name, p1: u32, p2: u32, rights: u32) {
-    let new = Capability { p2, parent: None, moneyword: 0, start: 0, end: 0, rights };
+    let new =
+        Capability { p2, parent: None, moneyword: 0, start: 0, end: 0, rights, last_day: MAX_DAY };
     store.capabilities.insert((name, p1), new);
 }
 
@@ -119,6 +120,30 @@ fn marks_and_cash() {
     }
 }
 
+/// "The password count of CR 8 leaves expired ones out.": day by day, each is counted up to its last
+/// day, by the two candidates and by every password of the space alike.
+#[test]
+fn expired_ones() {
+    let mut store = hall();
+    store.objects.get_mut(&LOOM).expect("a process").lockword = [1 << 30, 32];
+    let last_days = [0, 1, 1, 3, MAX_DAY];
+    let p1s = [0, 1, TOP, TOP + 1, TOP + (1 << 30)];
+    for (p1, last_day) in p1s.into_iter().zip(last_days) {
+        add(&mut store, PATTERN, p1, 32, MAX_RIGHTS);
+        let added = store.capabilities.get_mut(&(PATTERN, p1)).expect("a capability");
+        added.last_day = last_day;
+    }
+    let expected = [(0, 5), (1, 4), (2, 2), (3, 2), (4, 1), (MAX_DAY, 1)];
+    for (day, count_then) in expected {
+        store.day = day;
+        for right in right::ALL {
+            let question = count(LOOM, PATTERN, right);
+            assert_eq!(question.ask(&store), Ok(count_then), "day {day}");
+            assert_eq!(question.among(&store, passwords_within(SPACE)), count_then, "day {day}");
+        }
+    }
+}
+
 /// A fault in a question that would be answered 1.
 type Fault = fn(&mut PasswordCount);
 
@@ -162,7 +187,8 @@ fn derives_and_deletes() {
     let key = |p1| Key { p1, ..master };
     let derive = |from, mask, p1| {
         let limit = DEFAULT_LIMIT;
-        let action = Action::DeriveCap { mask, start: 0, end: 0, limit, p1, p2: 12 };
+        let last_day = DEFAULT_LAST_DAY;
+        let action = Action::DeriveCap { mask, start: 0, end: 0, limit, last_day, p1, p2: 12 };
         Operation::On(key(from), action)
     };
     let make = Operation::MakeObj { size: 1, flag: 0, rights: MAX_RIGHTS, drawn: master };

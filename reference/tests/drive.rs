@@ -13,8 +13,12 @@ use reference::numbers::*;
 const CARDS: Key = Key { name: Name { volume: MAX_VOLUME, serial: MAX_SERIAL }, p1: 11, p2: 12 };
 /// A capability of it, whose window has the rows.
 const ROWS: Key = Key { p1: 21, p2: 22, ..CARDS };
-/// The same without the right to read.
+/// The same without the right to read, and the same two on the day after their last.
 const BLIND: Key = Key { p1: 31, ..ROWS };
+const ENDED: Key = Key { p1: 41, ..ROWS };
+const ENDED_BLIND: Key = Key { p1: 51, ..ROWS };
+/// The store's day.
+const DAY: u32 = 100;
 /// The window starts here, unless it is too long for that.
 const START: u32 = 100;
 
@@ -24,7 +28,7 @@ const FEE: u32 = 1;
 /// 640 mm at 20 picks to the centimetre.
 const PICKS_OF_640_MM: u32 = 64 * 20;
 
-/// A store with so long a window; the two capabilities that have it are children of the master.
+/// A store with so long a window; the four capabilities that have it are children of the master.
 fn hall(length: u32) -> Store {
     let mut store = Store::fresh(CASH, BOSS.p1, BOSS.p2);
     let make = Operation::MakeObj { size: MAX_SIZE, flag: 0, rights: MAX_RIGHTS, drawn: CARDS };
@@ -34,6 +38,7 @@ fn hall(length: u32) -> Store {
         start,
         end: start + length,
         limit: DEFAULT_LIMIT,
+        last_day: DAY,
         p1: ROWS.p1,
         p2: ROWS.p2,
     };
@@ -42,7 +47,12 @@ fn hall(length: u32) -> Store {
     }
     object(&mut store, CARDS).bytes = (0..MAX_SIZE).map(byte).collect();
     let blind = Capability { rights: MAX_RIGHTS & !right::READ, ..*rows(&mut store) };
-    store.capabilities.insert((BLIND.name, BLIND.p1), blind);
+    let ended = Capability { last_day: DAY - 1, ..*rows(&mut store) };
+    let both = Capability { last_day: DAY - 1, ..blind };
+    for (key, capability) in [(BLIND, blind), (ENDED, ended), (ENDED_BLIND, both)] {
+        store.capabilities.insert((key.name, key.p1), capability);
+    }
+    store.day = DAY;
     store
 }
 
@@ -232,7 +242,7 @@ type Fault = fn(&mut Pick);
 
 /// Faults with their answers, in the order of the answers: those of the repeat and of the place, of
 /// the question, the length, and of the read.
-const FAULTS: [(u32, Fault); 11] = [
+const FAULTS: [(u32, Fault); 12] = [
     (OUT_OF_RANGE, |pick| pick.repeat.picks = 0),
     (OUT_OF_RANGE, |pick| pick.repeat.counts = MAX_COUNTS + 1),
     (OUT_OF_RANGE, |pick| pick.repeat.row = MAX_ROW + 1),
@@ -241,7 +251,12 @@ const FAULTS: [(u32, Fault); 11] = [
     (OUT_OF_RANGE, |pick| pick.key.name.volume = MAX_VOLUME + 1),
     (NOT_RUNNING, |pick| pick.caller = CARDS.name),
     (NOT_FOUND, |pick| pick.key.p2 += 1),
-    (RIGHT_MISSING, |pick| pick.key.p1 = BLIND.p1),
+    (EXPIRED, |pick| pick.key.p1 = ENDED.p1),
+    // with the fault before it, it is both
+    (RIGHT_MISSING, |pick| {
+        let ended = pick.key.p1 == ENDED.p1;
+        pick.key.p1 = if ended { ENDED_BLIND.p1 } else { BLIND.p1 };
+    }),
     (WRONG_LENGTH, |pick| pick.repeat.row += 1),
     (OUT_OF_RANGE, |pick| pick.buffer = MIN_BUFFER - 1),
 ];
@@ -344,6 +359,24 @@ fn windows() {
     ] {
         assert_eq!(asked(&store, key), Err(NOT_FOUND), "{key:?}");
     }
+}
+
+/// "19, .. right after 5 in every call and in the drive's window question": from the day after the
+/// last day on, whatever the rights.
+#[test]
+fn days_of_the_question() {
+    let mut store = hall(30);
+    assert_eq!(asked(&store, ENDED), Err(EXPIRED));
+    assert_eq!(asked(&store, ENDED_BLIND), Err(EXPIRED), "19 before 6");
+    assert_eq!(asked(&store, Key { p2: 0, ..ENDED }), Err(NOT_FOUND), "5 before 19");
+    assert_eq!(store.window(CARDS.name, ENDED), Err(Refusal::NotRunning), "3 before 19");
+    assert_eq!(asked(&store, ROWS), Ok((START, START + 30)), "on its last day");
+    store.day = DAY + 1;
+    assert_eq!(asked(&store, ROWS), Err(EXPIRED));
+    assert_eq!(asked(&store, BLIND), Err(EXPIRED));
+    assert_eq!(asked(&store, CARDS), Ok((0, MAX_SIZE)), "a master");
+    store.day = MAX_DAY;
+    assert_eq!(asked(&store, CARDS), Ok((0, MAX_SIZE)), "a master");
 }
 
 /// The two names out of range; a name at the end of each range is in it.

@@ -6,7 +6,7 @@ mod boss;
 use boss::{by_boss, pay, BOSS};
 use reference::call::{Action, Key, Name, Operation};
 use reference::hooks::{turned, Hooked, Transfer, TILE};
-use reference::kernel::Store;
+use reference::kernel::{Capability, Store};
 use reference::numbers::*;
 
 /// Bytes of no pattern.
@@ -70,6 +70,8 @@ fn every_length() {
 
 /// A data object.
 const CARDS: Key = Key { name: Name { volume: 2, serial: 3 }, p1: 21, p2: 22 };
+/// A child of its master on the day after its last.
+const ENDED: Key = Key { p1: 31, ..CARDS };
 const CASH: u32 = 1_000;
 /// What a read costs, and a write.
 const FEES: [u32; 2] = [1, 2];
@@ -78,6 +80,10 @@ fn hall() -> Store {
     let mut store = Store::fresh(CASH, BOSS.p1, BOSS.p2);
     let make = Operation::MakeObj { size: 512, flag: 0, rights: MAX_RIGHTS, drawn: CARDS };
     assert_eq!(store.run(&by_boss(make)).code, DONE);
+    let master = store.capabilities[&(CARDS.name, CARDS.p1)];
+    let ended = Capability { parent: Some(CARDS.p1), last_day: 0, ..master };
+    store.capabilities.insert((ENDED.name, ENDED.p1), ended);
+    store.day = 1;
     store
 }
 
@@ -131,7 +137,7 @@ fn beside_plain_calls() {
 type Fault = fn(&mut Hooked);
 
 /// Faults with their answers: each is refused as the plain call is.
-const FAULTS: [(u32, Fault); 9] = [
+const FAULTS: [(u32, Fault); 10] = [
     (OUT_OF_RANGE, |hooked| hooked.caller.volume = MAX_VOLUME + 1),
     (OUT_OF_RANGE, |hooked| hooked.key.name.serial = MAX_SERIAL + 1),
     (OUT_OF_RANGE, |hooked| hooked.start = hooked.end + 1),
@@ -143,6 +149,7 @@ const FAULTS: [(u32, Fault); 9] = [
     (NOT_RUNNING, |hooked| hooked.caller = CARDS.name),
     (NOT_FOUND, |hooked| hooked.key.p2 += 1),
     (NOT_FOUND, |hooked| hooked.key.name = BOSS.name),
+    (EXPIRED, |hooked| hooked.key = ENDED),
     (OUTSIDE_WINDOW, |hooked| (hooked.start, hooked.end) = (500, 516)),
 ];
 

@@ -5,7 +5,7 @@ use reference::numbers::*;
 use reference::script::read_call;
 
 /// A line, whether it needs the buffer and the scratch, and its answer when they suffice.
-const TABLE: [(&str, bool, bool, u32); 10] = [
+const TABLE: [(&str, bool, bool, u32); 11] = [
     ("2 0 1 0 1 5 9 0 0", true, false, DONE),
     ("14 0 1", true, false, BOX_EMPTY),
     ("6 0 1 0 1 5 9", false, true, DONE),
@@ -16,6 +16,7 @@ const TABLE: [(&str, bool, bool, u32); 10] = [
     ("1 0 1 0 64 0 0 2 1 1", false, false, DONE),
     ("13 0 1 0 1 5 9 0 1 2 3", false, false, DONE),
     ("15 0 1", false, false, DONE),
+    ("17 5", false, false, DONE),
 ];
 
 fn code(line: &str, buffer: usize, scratch: usize) -> u32 {

@@ -67,6 +67,11 @@ fn every_count() {
 const PATTERN: Key = Key { name: Name { volume: 2, serial: 3 }, p1: 11, p2: 12 };
 const PURSE: Key = Key { p1: 21, p2: 22, ..PATTERN };
 const CLOSED: Key = Key { p1: 31, ..PURSE };
+/// The same two on the day after their last.
+const ENDED: Key = Key { p1: 41, ..PURSE };
+const ENDED_CLOSED: Key = Key { p1: 51, ..PURSE };
+/// The store's day.
+const DAY: u32 = 100;
 const CASH: u32 = 1_000;
 /// What a withdraw costs.
 const FEE: u32 = 2;
@@ -80,6 +85,7 @@ fn hall(money: u32) -> Store {
         start: 0,
         end: 0,
         limit: DEFAULT_LIMIT,
+        last_day: DAY,
         p1: PURSE.p1,
         p2: PURSE.p2,
     };
@@ -90,7 +96,12 @@ fn hall(money: u32) -> Store {
     }
     let purse = store.capabilities[&(PURSE.name, PURSE.p1)];
     let closed = Capability { rights: MAX_RIGHTS & !right::WITHDRAW, ..purse };
-    store.capabilities.insert((CLOSED.name, CLOSED.p1), closed);
+    let ended = Capability { last_day: DAY - 1, ..purse };
+    let both = Capability { last_day: DAY - 1, ..closed };
+    for (key, capability) in [(CLOSED, closed), (ENDED, ended), (ENDED_CLOSED, both)] {
+        store.capabilities.insert((key.name, key.p1), capability);
+    }
+    store.day = DAY;
     cash(&mut store, CASH);
     store
 }
@@ -179,12 +190,17 @@ fn bills_at_the_edges() {
 type Fault = fn(&mut Bill);
 
 /// Faults with their answers, in the order of the answers.
-const FAULTS: [(u32, Fault); 6] = [
+const FAULTS: [(u32, Fault); 7] = [
     (COUNT_PASSES, |bill| bill.count = MAX_COUNT),
     (OUT_OF_RANGE, |bill| bill.key.name.volume = MAX_VOLUME + 1),
     (NOT_RUNNING, |bill| bill.caller = PATTERN.name),
     (NOT_FOUND, |bill| bill.key.p2 += 1),
-    (RIGHT_MISSING, |bill| bill.key.p1 = CLOSED.p1),
+    (EXPIRED, |bill| bill.key.p1 = ENDED.p1),
+    // with the fault before it, it is both
+    (RIGHT_MISSING, |bill| {
+        let ended = bill.key.p1 == ENDED.p1;
+        bill.key.p1 = if ended { ENDED_CLOSED.p1 } else { CLOSED.p1 };
+    }),
     (TOO_LITTLE, |bill| bill.picks = MAX_COUNT),
 ];
 
@@ -229,7 +245,7 @@ fn adds_up(until: u32, each: &[u32]) {
     let mut store = hall(charge_at_once(until));
     cash(&mut store, 1_000_000);
     let (mut count, mut total) = (0, 0);
-    let mut bills = each.iter().cycle().zip(FAULTS[1..5].iter().cycle());
+    let mut bills = each.iter().cycle().zip(FAULTS[1..6].iter().cycle());
     while count < until {
         let (picks, (code, fault)) = bills.next().expect("a bill");
         let next = bill(count, (*picks).min(until - count));

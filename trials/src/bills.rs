@@ -198,7 +198,7 @@ const DONE_BILLS: [Scene<Tried>; 17] = [
 ];
 
 /// What bills whose count would pass must meet, whatever else is wrong.
-const PASSING_BILLS: [Scene<Tried>; 9] = [
+const PASSING_BILLS: [Scene<Tried>; 10] = [
     ("nothing else wrong", COUNT_PASSES, |tried| tried.held.is_empty()),
     ("by one pick", COUNT_PASSES, |tried| passes_by_one(&tried.bill)),
     ("one pick at the largest count", COUNT_PASSES, |tried| {
@@ -211,11 +211,12 @@ const PASSING_BILLS: [Scene<Tried>; 9] = [
     ("the caller does not run, too", COUNT_PASSES, |tried| tried.holds(NOT_RUNNING)),
     ("the caller cannot pay, either", COUNT_PASSES, |tried| tried.holds(CANNOT_PAY)),
     ("no such capability, either", COUNT_PASSES, |tried| tried.holds(NOT_FOUND)),
+    ("an expired capability, too", COUNT_PASSES, |tried| tried.holds(EXPIRED)),
     ("no right, either", COUNT_PASSES, |tried| tried.holds(RIGHT_MISSING)),
 ];
 
 /// What bills that the withdraw refuses must meet.
-const REFUSED_BILLS: [Scene<Tried>; 13] = [
+const REFUSED_BILLS: [Scene<Tried>; 16] = [
     ("a name", OUT_OF_RANGE, |tried| !tried.nothing()),
     ("a name, a bill of 0", OUT_OF_RANGE, Tried::nothing),
     ("the caller does not run", NOT_RUNNING, |tried| !tried.nothing()),
@@ -224,6 +225,9 @@ const REFUSED_BILLS: [Scene<Tried>; 13] = [
     ("the caller cannot pay, a bill of 0", CANNOT_PAY, Tried::nothing),
     ("no such capability", NOT_FOUND, |tried| !tried.nothing()),
     ("no such capability, a bill of 0", NOT_FOUND, Tried::nothing),
+    ("an expired capability", EXPIRED, |tried| !tried.nothing()),
+    ("an expired capability, a bill of 0", EXPIRED, Tried::nothing),
+    ("an expired capability with too little", EXPIRED, |tried| tried.holds(TOO_LITTLE)),
     ("no right to withdraw", RIGHT_MISSING, |tried| !tried.nothing()),
     ("no right to withdraw, a bill of 0", RIGHT_MISSING, Tried::nothing),
     ("a credit too little", TOO_LITTLE, |tried| {

@@ -13,24 +13,30 @@ pub struct Condition {
     pub case: &'static str,
 }
 
-/// The conditions that hold, in 01's order.
+/// The conditions that hold, in the papers' order.
 pub fn holding(store: &Store, call: &Call) -> Vec<Condition> {
     let mut list = List(Vec::new());
     list.arguments(call);
-    list.caller(store, call);
+    if call.operation.has_caller() {
+        list.caller(store, call);
+    }
     match &call.operation {
         Operation::MakeObj { size, drawn, .. } => list.make_obj(store, *size, drawn.name),
         Operation::Receive => list.receive(store, call.caller),
         Operation::On(key, action) => list.action(store, call, *key, action),
+        Operation::SetDay { day } => {
+            list.note(*day < store.day, Refusal::EarlierDay, "earlier day");
+        }
         Operation::Wait | Operation::Unknown(_) => {}
     }
     list.0
 }
 
 /// Puts into a store what the fee of a call that was answered so leaves: by 2 and 3 nothing, by 4
-/// the mark, else the fee is paid.
+/// the mark, else the fee is paid. A call that has no caller has no fee.
 pub fn leave_fee(store: &mut Store, call: &Call, code: u32) {
-    let Some(caller) = store.objects.get_mut(&call.caller) else {
+    let caller = store.objects.get_mut(&call.caller);
+    let Some(caller) = caller.filter(|_| call.operation.has_caller()) else {
         return;
     };
     match code {
@@ -58,8 +64,10 @@ impl List {
     }
 
     fn arguments(&mut self, call: &Call) {
-        self.range(call.caller.volume > MAX_VOLUME, "caller's volume");
-        self.range(call.caller.serial > MAX_SERIAL, "caller's serial");
+        if call.operation.has_caller() {
+            self.range(call.caller.volume > MAX_VOLUME, "caller's volume");
+            self.range(call.caller.serial > MAX_SERIAL, "caller's serial");
+        }
         match &call.operation {
             Operation::MakeObj { size, flag, rights, drawn } => {
                 self.range(drawn.name.volume > MAX_VOLUME, "new volume");
@@ -75,6 +83,7 @@ impl List {
                 self.range(key.name.serial > MAX_SERIAL, "serial");
                 self.action_arguments(call, action);
             }
+            Operation::SetDay { day } => self.range(*day > MAX_DAY, "day"),
             Operation::Unknown(_) => self.range(true, "unknown call"),
         }
     }
@@ -90,9 +99,10 @@ impl List {
                 let length = u32::try_from(data.len()).ok();
                 self.range(end.checked_sub(*start) != length, "data length");
             }
-            Action::DeriveCap { mask, start, end, .. } => {
+            Action::DeriveCap { mask, start, end, last_day, .. } => {
                 self.range(*mask > MAX_RIGHTS, "mask");
                 self.range(start > end, "start after end");
+                self.range(*last_day > MAX_DAY, "last day");
             }
             Action::DeleteCap | Action::RenameObj { .. } => {
                 self.range(call.scratch < MIN_SCRATCH, "scratch");
@@ -142,11 +152,13 @@ impl List {
         self.note(empty, Refusal::BoxEmpty, "empty");
     }
 
-    /// 5 and 6, then what the call adds. Without a capability, what depends on it cannot be
+    /// 5, 19 and 6, then what the call adds. Without a capability, what depends on it cannot be
     /// evaluated; what depends on its object, the caller or the arguments alone can.
     fn action(&mut self, store: &Store, call: &Call, key: Key, action: &Action) {
         let found = self.capability(store, call, key);
         if let Some(capability) = found.and_then(|place| store.capabilities.get(&place)) {
+            let expired = capability.last_day < store.day;
+            self.note(expired, Refusal::Expired, "expired");
             let right = call_kind(action.number()).map_or(0, |kind| kind.right);
             let missing = capability.rights & right == 0;
             self.note(missing, Refusal::RightMissing, "right");

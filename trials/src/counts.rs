@@ -61,6 +61,8 @@ pub struct Tried {
     object: Option<Object>,
     /// The p1 and the record of each capability of the object.
     tree: Vec<(u32, Capability)>,
+    /// The store's day.
+    day: u32,
 }
 
 impl Tried {
@@ -72,13 +74,25 @@ impl Tried {
             caller: store.objects.get(&asked.caller).cloned(),
             object: store.objects.get(&asked.object).cloned(),
             tree: tree.collect(),
+            day: store.day,
         }
     }
 
-    /// Those that hold the right.
-    fn holding(&self) -> impl Iterator<Item = u32> + '_ {
+    /// Those that have the right, expired or not.
+    fn with_right(&self) -> impl Iterator<Item = &(u32, Capability)> {
         let holds = |(_, found): &&(u32, Capability)| found.rights & self.asked.right != 0;
-        self.tree.iter().filter(holds).map(|(p1, _)| *p1)
+        self.tree.iter().filter(holds)
+    }
+
+    /// Those that hold the right on this day.
+    fn holding(&self) -> impl Iterator<Item = u32> + '_ {
+        let good = self.with_right().filter(|(_, found)| found.last_day >= self.day);
+        good.map(|(p1, _)| *p1)
+    }
+
+    /// How many have the right and are expired.
+    fn expired(&self) -> usize {
+        self.with_right().count() - self.count()
     }
 
     fn count(&self) -> usize {
@@ -109,7 +123,7 @@ impl Tried {
 }
 
 /// What answered questions must meet.
-const COUNTED: [Scene<Tried>; 17] = [
+const COUNTED: [Scene<Tried>; 22] = [
     ("an absent object", DONE, |tried| tried.object.is_none()),
     ("none", DONE, |tried| tried.object.is_some() && tried.count() == 0),
     ("none of several", DONE, |tried| tried.tree.len() > 1 && tried.count() == 0),
@@ -130,6 +144,15 @@ const COUNTED: [Scene<Tried>; 17] = [
     ("some by another password", DONE, Tried::locked),
     ("with and without a top bit", DONE, |tried| {
         tried.locked() && tried.holding().any(|p1| p1 < TOP)
+    }),
+    ("one left out that is expired", DONE, |tried| tried.expired() == 1 && tried.count() > 1),
+    ("several left out that are expired", DONE, |tried| tried.expired() > 3 && tried.count() > 1),
+    ("all but the master's expired", DONE, |tried| tried.expired() > 0 && tried.count() == 1),
+    ("one whose last day it is", DONE, |tried| {
+        tried.day < MAX_DAY && tried.with_right().any(|(_, found)| found.last_day == tried.day)
+    }),
+    ("one whose last day was the day before", DONE, |tried| {
+        tried.with_right().any(|(_, found)| found.last_day + 1 == tried.day)
     }),
 ];
 

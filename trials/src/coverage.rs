@@ -6,14 +6,14 @@ use crate::generate::Generator;
 use crate::profiles::{Profile, PROFILES};
 use crate::random::Random;
 use crate::scenes::{scenes, SCENES};
-use reference::call::{call_kind, Action, Call, Operation, CALLS};
+use reference::call::{call_kind, Action, Call, Operation, SET_DAY};
 use reference::claims::CheckedRun;
 use reference::kernel::{Object, Store};
 use reference::numbers::*;
 use std::collections::BTreeMap;
 use std::fmt::Write;
 
-/// The refusals of a call that can be met, in 01's order. Left out everywhere: 1, since a store
+/// The refusals of a call that can be met, in the papers' order. Left out everywhere: 1, since a store
 /// over maps is always well formed; and 4 for wait, whose fee of 0 can always be paid. An
 /// unknown number stands under 0 and is always 2.
 pub fn refusals(call: u32) -> Vec<u32> {
@@ -28,13 +28,14 @@ pub fn refusals(call: u32) -> Vec<u32> {
         13 => &[NOT_PROCESS, TOO_LITTLE, BOX_FULL],
         14 => &[BOX_EMPTY],
         16 => &[NOT_PROCESS, NOT_REVIVABLE, TOO_LITTLE],
+        SET_DAY => &[EARLIER_DAY],
         _ => &[],
     };
     let before: &[u32] = match call {
-        0 => &[OUT_OF_RANGE],
+        0 | SET_DAY => &[OUT_OF_RANGE],
         1 | 14 => &[OUT_OF_RANGE, NOT_RUNNING, CANNOT_PAY],
         15 => &[OUT_OF_RANGE, NOT_RUNNING],
-        _ => &[OUT_OF_RANGE, NOT_RUNNING, CANNOT_PAY, NOT_FOUND, RIGHT_MISSING],
+        _ => &[OUT_OF_RANGE, NOT_RUNNING, CANNOT_PAY, NOT_FOUND, EXPIRED, RIGHT_MISSING],
     };
     [before, own].concat()
 }
@@ -49,18 +50,27 @@ pub enum Hold {
 
 const HOLDS: [Hold; 3] = [Hold::Both, Hold::OnlyEarlier, Hold::OnlyLater];
 
+/// The calls that present a capability.
+pub const PRESENTING: &[u32] = &[2, 3, 4, 5, 6, 7, 8, 9, 10, 11, 12, 13, 16];
+
 /// What cannot be met: calls, the two refusals, and how they cannot hold.
-const UNREACHABLE: [(&[u32], u32, u32, Hold); 7] = [
-    // Without a capability there are no rights, no window, no place in the tree and no climb.
-    (&[2, 3, 4, 5, 6, 7, 8, 9, 10, 11, 12, 13, 16], NOT_FOUND, RIGHT_MISSING, Hold::Both),
+const UNREACHABLE: [(&[u32], u32, u32, Hold); 10] = [
+    // Without a capability there are no last day, no rights, no window, no place in the tree and no
+    // climb.
+    (PRESENTING, NOT_FOUND, EXPIRED, Hold::Both),
+    (PRESENTING, NOT_FOUND, RIGHT_MISSING, Hold::Both),
     (&[2, 3], NOT_FOUND, OUTSIDE_WINDOW, Hold::Both),
     (&[7], NOT_FOUND, NOT_MASTER, Hold::Both),
     (&[8], NOT_FOUND, TOO_LITTLE, Hold::Both),
     (&[9], NOT_FOUND, OVERFLOWS, Hold::Both),
+    // A master's last day is the last of all.
+    (&[7], EXPIRED, NOT_MASTER, Hold::OnlyEarlier),
     // A data object has no box.
     (&[13], NOT_PROCESS, BOX_FULL, Hold::Both),
     // wait has no argument but the caller's name, and a caller out of range is absent.
     (&[15], OUT_OF_RANGE, NOT_RUNNING, Hold::OnlyEarlier),
+    // A day out of range is after every day.
+    (&[SET_DAY], OUT_OF_RANGE, EARLIER_DAY, Hold::Both),
 ];
 
 fn reachable(call: u32, pair: (u32, u32), hold: Hold) -> bool {
@@ -111,7 +121,7 @@ pub struct Coverage {
 impl Coverage {
     /// Counts a call, what held before it, and its answer's code.
     pub fn note(&mut self, call: &Call, held: &[Condition], code: u32) {
-        let number = call_kind(call.operation.number()).map_or(0, |kind| kind.number);
+        let number = counted_as(call);
         self.calls += 1;
         *self.answers.entry((number, code)).or_default() += 1;
         for condition in held {
@@ -134,7 +144,7 @@ impl Coverage {
         let count = |scene: &str| self.scenes.get(scene).copied().unwrap_or(0);
         let scenes = SCENES.iter().map(|scene| (scene.to_string(), count(scene)));
         let mut counts: Vec<(String, u64)> = scenes.collect();
-        for call in 0..=CALLS.len() as u32 {
+        for call in 0..=SET_DAY {
             let done = (call > 0).then_some(DONE);
             for code in done.into_iter().chain(refusals(call)) {
                 let count = self.answers.get(&(call, code)).copied();
@@ -179,7 +189,7 @@ impl Coverage {
         for (scene, count) in &self.scenes {
             let _ = writeln!(text, "  {scene:<40} {count:>8}");
         }
-        for call in 0..=CALLS.len() as u32 {
+        for call in 0..=SET_DAY {
             let _ = writeln!(text, "\n{}", name(call));
             let of_call = |key: u32| key == call;
             for ((_, code), count) in self.answers.iter().filter(|((c, _), _)| of_call(*c)) {
@@ -208,8 +218,20 @@ fn pairs(call: u32) -> Vec<(u32, u32)> {
     (0..list.len()).flat_map(later).map(|(at, b)| (list[at], b)).collect()
 }
 
-fn name(call: u32) -> &'static str {
-    call_kind(call).map_or("unknown", |kind| kind.name)
+/// The number that a call is counted under: its own, or 0 for the unknown ones.
+pub fn counted_as(call: &Call) -> u32 {
+    let number = call.operation.number();
+    if number <= SET_DAY {
+        number
+    } else {
+        0
+    }
+}
+
+/// The name of a call, by its number.
+pub fn name(call: u32) -> &'static str {
+    let other = if call == SET_DAY { "set_day" } else { "unknown" };
+    call_kind(call).map_or(other, |kind| kind.name)
 }
 
 /// Checked runs of all profiles. Every call is checked by `CheckedRun`, and its answer is

@@ -1,5 +1,5 @@
-//! The crafted damages: each makes a clause of 01's "A store is well formed when .." fail, and as
-//! far as can be no other, or changes the store and leaves it well formed.
+//! The crafted damages: each makes a clause of 01's "A store is well formed when .." or of what 02
+//! adds to it fail, and as far as can be no other, or changes the store and leaves it well formed.
 
 mod links;
 mod records;
@@ -51,6 +51,9 @@ pub enum Crafted {
     StartAfterEnd,
     RightsOutsideParent,
     RightsOutOfRange,
+    LastDayAfterParent,
+    LastDayBeforeChild,
+    LastDayOfMaster,
     Flag2,
     Mark2,
     Count5,
@@ -62,6 +65,9 @@ pub enum Crafted {
     SameSerialOnOtherVolume,
     EmptyWindowAtEnd,
     ReorderedChildren,
+    LastDayAtParent,
+    LastDay0,
+    AnyDay,
 }
 
 /// How a kind is done; none if the store has no place for it.
@@ -109,6 +115,9 @@ const RANGES: &[(Crafted, Craft)] = &[
     (Crafted::StartAfterEnd, start_after_end),
     (Crafted::RightsOutsideParent, rights_outside_parent),
     (Crafted::RightsOutOfRange, rights_out_of_range),
+    (Crafted::LastDayAfterParent, last_day_after_parent),
+    (Crafted::LastDayBeforeChild, last_day_before_child),
+    (Crafted::LastDayOfMaster, last_day_of_master),
     (Crafted::Flag2, |raw, random| set_in_object(raw, random, FLAG, 2)),
     (Crafted::Mark2, mark_2),
     (Crafted::Count5, |raw, random| set_in_process(raw, random, COUNT, 5)),
@@ -122,6 +131,9 @@ const STILL_WELL_FORMED: &[(Crafted, Craft)] = &[
     (Crafted::SameSerialOnOtherVolume, same_serial_on_other_volume),
     (Crafted::EmptyWindowAtEnd, empty_window_at_end),
     (Crafted::ReorderedChildren, reordered_children),
+    (Crafted::LastDayAtParent, last_day_at_parent),
+    (Crafted::LastDay0, last_day_0),
+    (Crafted::AnyDay, any_day),
 ];
 
 fn table() -> impl Iterator<Item = &'static (Crafted, Craft)> {

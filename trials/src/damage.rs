@@ -47,7 +47,7 @@ impl Kind {
     }
 
     /// What is known of the answer to a well-formed store damaged by this kind alone: cells that
-    /// may hold anything leave it well formed, links of free records do not.
+    /// may hold anything leave it well formed, and so does any day; links of free records do not.
     pub fn well_formed_after(self) -> Option<bool> {
         let (name, slot) = match self.row() {
             Ok(row) => row,
@@ -57,7 +57,7 @@ impl Kind {
         match slot {
             Slot::Zero => Some(true),
             Slot::Free => Some(!of_free.contains(&name)),
-            Slot::Living => None,
+            Slot::Living => (name == DAY.name).then_some(true),
         }
     }
 

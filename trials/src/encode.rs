@@ -55,6 +55,7 @@ pub fn encode(store: &Store, random: &mut Random) -> RawStore {
         free_blocks: shuffled(slots(Record::Block), random),
     };
     encoder.raw.set(HOUSE, 0, store.house);
+    encoder.raw.set(DAY, 0, narrow(store.day));
     let objects: BTreeMap<Name, usize> =
         store.objects.iter().map(|(name, object)| (*name, encoder.object(*name, object))).collect();
     encoder.capabilities(store, &objects, random);
@@ -157,6 +158,7 @@ impl Encoder {
             self.raw.set(START, at, capability.start);
             self.raw.set(END, at, capability.end);
             self.raw.set(RIGHTS, at, narrow(capability.rights));
+            self.raw.set(LAST_DAY, at, narrow(capability.last_day));
             match capability.parent {
                 Some(p1) => children.entry(taken[&(place.0, p1)]).or_default().push(at),
                 None => self.master(owner, at),

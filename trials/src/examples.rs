@@ -1,5 +1,5 @@
-//! Short named scripts that together touch every call and every refusal from 2 to 16, and
-//! their printing, with the reference's answers, as definitions of the proof language.
+//! Short named scripts that together touch every call and every refusal from 2 to 16, 19 and 20,
+//! and their printing, with the reference's answers, as definitions of the proof language.
 
 use reference::kernel::Store;
 use reference::script;
@@ -80,7 +80,7 @@ pub fn definitions() -> Option<String> {
 }
 
 /// The examples.
-pub const EXAMPLES: [Example; 17] = [
+pub const EXAMPLES: [Example; 25] = [
     Example {
         name: "example",
         touches: "the script of 01",
@@ -201,7 +201,7 @@ pub const EXAMPLES: [Example; 17] = [
 9 0 1 3 9 11 12 5
 4 0 1 3 9 3 4
 5 0 1 3 9 1 2 8191 0 16 1
-5 0 1 3 9 1 2 8191 0 16 1 13 14 0",
+5 0 1 3 9 1 2 8191 0 16 1 7 13 14 0",
     },
     Example {
         name: "overflow",
@@ -425,7 +425,7 @@ pub const EXAMPLES: [Example; 17] = [
             "unknown calls, arguments out of range, and lines with too few or too many numbers",
         text: "1000 5 9
 0 0 1
-17 0 1
+18 0 1
 15 4 1
 15 0 65536
 15 0
@@ -445,5 +445,168 @@ pub const EXAMPLES: [Example; 17] = [
 3 0 1 0 1 5 9 0 1 256
 13 0 1 0 1 5 9 0 0 0 0 0 0 0 0 0 0 0 0 0 0 0 0 0 0
 15 0 2",
+    },
+    Example {
+        name: "calendar",
+        touches: "the day set, set again, set back and out of range; lines of 17 that are too long",
+        text: "1000 5 9
+17 0
+17 5
+17 5
+17 4
+17 0
+17 65536
+17 4294967295
+17
+17 6 0
+17 0 1
+17 65535
+17 65534
+17 65535
+17 65536
+4 0 1 0 1 5 9",
+    },
+    Example {
+        name: "licences",
+        touches: "last days before, at and after the parent's; used on the last day and the next",
+        text: "1000 5 9
+1 0 1 3 16 0 8191 9 1 2
+5 0 1 3 9 1 2 8191 0 16 4294967295 10 3 4
+5 0 1 3 9 3 4 8191 0 16 4294967295 11 5 6
+5 0 1 3 9 3 4 8191 0 16 4294967295 10 7 8
+5 0 1 3 9 3 4 8191 0 16 4294967295 9 11 12
+17 9
+4 0 1 3 9 11 12
+17 10
+4 0 1 3 9 11 12
+4 0 1 3 9 3 4
+4 0 1 3 9 5 6
+4 0 1 3 9 7 8
+17 11
+4 0 1 3 9 3 4
+4 0 1 3 9 5 6
+4 0 1 3 9 7 8
+4 0 1 3 9 1 2",
+    },
+    Example {
+        name: "leftout",
+        touches: "lines with limit and last day, with the limit alone and with neither; 65,536",
+        text: "1000 5 9
+1 0 1 3 16 0 8191 9 1 2
+9 0 1 3 9 1 2 100
+5 0 1 3 9 1 2 8191 0 16 40 7 3 4
+5 0 1 3 9 3 4 8191 0 16 5 6
+5 0 1 3 9 3 4 8191 0 16 30 7 8
+5 0 1 3 9 3 4 8191 0 16 65535 65535 9 10
+5 0 1 3 9 1 2 8191 0 16 11 12
+5 0 1 3 9 1 2 8191 0 16 40 65536 13 14
+5 0 1 3 9 1 2 8191 0 16 40 4294967295 13 14
+5 0 1 3 9 1 2 8191 0 16 40 7 8 13 14
+5 0 1 3 9 1 2 8191 0 16 13
+17 7
+4 0 1 3 9 7 8
+17 8
+4 0 1 3 9 3 4
+4 0 1 3 9 5 6
+4 0 1 3 9 7 8
+4 0 1 3 9 9 10
+4 0 1 3 9 11 12",
+    },
+    Example {
+        name: "outdated",
+        touches: "every call that presents a capability, expired; what comes before 19 and after",
+        text: "1000 5 9
+1 0 1 1 16 1 8191 2 1 2
+5 0 1 1 2 1 2 8191 0 16 4294967295 0 3 4
+5 0 1 1 2 1 2 0 0 16 4294967295 0 5 6
+17 1
+2 0 1 1 2 3 4 0 0
+3 0 1 1 2 3 4 0 0
+4 0 1 1 2 3 4
+5 0 1 1 2 3 4 0 0 0 7 8
+6 0 1 1 2 3 4
+7 0 1 1 2 3 4 7 8
+8 0 1 1 2 3 4 1
+9 0 1 1 2 3 4 5000
+10 0 1 1 2 3 4
+11 0 1 1 2 3 4
+12 0 1 1 2 3 4 1 1
+13 0 1 1 2 3 4 5000
+16 0 1 1 2 3 4 0
+4 0 1 1 2 5 6
+4 0 1 1 2 3 5
+2 0 1 1 2 3 4 0 257
+2 1 2 1 2 3 4 0 0",
+    },
+    Example {
+        name: "heirs",
+        touches: "an expired one has its p1 and ends with an ancestor, and so do those below it",
+        text: "1000 5 9
+1 0 1 2 64 0 8191 7 11 13
+5 0 1 2 7 11 13 8191 0 64 4294967295 20 21 22
+5 0 1 2 7 21 22 8191 0 64 4294967295 5 31 32
+5 0 1 2 7 31 32 8191 0 64 41 42
+17 6
+4 0 1 2 7 31 32
+6 0 1 2 7 31 32
+5 0 1 2 7 21 22 8191 0 64 31 99
+7 0 1 2 7 11 13 41 99
+6 0 1 2 7 21 22
+4 0 1 2 7 31 32
+4 0 1 2 7 41 42
+5 0 1 2 7 11 13 8191 0 64 31 99
+4 0 1 2 7 31 99
+17 65535
+4 0 1 2 7 31 99
+7 0 1 2 7 11 13 41 99
+4 0 1 2 7 41 99
+6 0 1 2 7 41 99",
+    },
+    Example {
+        name: "overdue",
+        touches: "purses of expired ones: refused for the fee, and their parents' go on",
+        text: "1000 5 9
+1 0 1 3 16 0 8191 9 1 2
+9 0 1 3 9 1 2 100
+5 0 1 3 9 1 2 8191 0 16 50 30 3 4
+5 0 1 3 9 3 4 8191 0 16 20 10 5 6
+8 0 1 3 9 5 6 5
+17 11
+8 0 1 3 9 5 6 5
+9 0 1 3 9 5 6 5
+8 0 1 3 9 3 4 5
+4 0 1 3 9 1 2
+4 0 1 3 9 3 4
+17 31
+8 0 1 3 9 3 4 5
+8 0 1 3 9 1 2 90",
+    },
+    Example {
+        name: "belated",
+        touches: "derived for a day that is over, and for this day alone; then a master deleted",
+        text: "1000 5 9
+17 100
+1 0 1 2 64 0 8191 7 11 13
+5 0 1 2 7 11 13 8191 0 64 4294967295 99 21 22
+4 0 1 2 7 21 22
+5 0 1 2 7 11 13 8191 0 64 4294967295 100 31 32
+4 0 1 2 7 31 32
+5 0 1 2 7 31 32 8191 0 64 4294967295 99 41 42
+4 0 1 2 7 41 42
+5 0 1 2 7 21 22 8191 0 64 51 52
+6 0 1 2 7 11 13
+4 0 1 2 7 21 22",
+    },
+    Example {
+        name: "hosting",
+        touches: "the day needs no caller that runs and no cash",
+        text: "0 5 9
+17 3
+15 0 1
+17 4
+15 0 1
+17 3
+17 65535
+4 0 1 0 1 5 9",
     },
 ];

@@ -4,7 +4,7 @@
 
 use crate::profiles::Profile;
 use crate::random::Random;
-use reference::call::{call_kind, Action, Call, Key, Name, Operation, CALLS};
+use reference::call::{call_kind, Action, Call, Key, Name, Operation, SET_DAY};
 use reference::kernel::{Capability, Object, Place, Store};
 use reference::numbers::*;
 use reference::script;
@@ -75,6 +75,9 @@ impl Generator {
     fn any_call(&mut self, store: &Store) -> Call {
         self.draw_care();
         let number = self.number();
+        if number == SET_DAY {
+            return self.set_day(store);
+        }
         let caller = self.caller(store, number);
         let operation = match number {
             1 => self.make_obj(store),
@@ -99,9 +102,9 @@ impl Generator {
     fn number(&mut self) -> u32 {
         let total = self.profile.weights.iter().sum();
         let mut left = self.random.below(total);
-        for (kind, weight) in CALLS.iter().zip(self.profile.weights) {
+        for (number, weight) in (1..=SET_DAY).zip(self.profile.weights) {
             if left < weight {
-                return kind.number;
+                return number;
             }
             left -= weight;
         }
@@ -109,8 +112,72 @@ impl Generator {
     }
 
     fn unknown(&mut self) -> u32 {
-        let number = self.random.pick(&[0, 17, 18, 255, 256, 257, 65_537]);
+        let number = self.random.pick(&[0, 18, 19, 255, 256, 257, 273, 65_537, 65_553]);
         number.unwrap_or(u32::MAX)
+    }
+
+    /// The host's call, with anyone as its caller, and any buffer and scratch.
+    fn set_day(&mut self, store: &Store) -> Call {
+        let mut caller = self.caller(store, SET_DAY);
+        match self.random.below(4) {
+            0 => caller = self.drawn_name(),
+            1 => caller = self.out_of_range(caller),
+            _ => {}
+        }
+        Call {
+            caller,
+            operation: Operation::SetDay { day: self.day(store.day) },
+            buffer: self.random.below(2 * MIN_BUFFER as u32) as usize,
+            scratch: self.random.below(2 * MIN_SCRATCH as u32) as usize,
+        }
+    }
+
+    /// A new day: mostly the next or one soon after, else the same or an earlier one, now and then a
+    /// far later one, and rarely the last of all; by a fault out of range.
+    fn day(&mut self, day: u32) -> u32 {
+        if self.fault() {
+            return self.day_out_of_range();
+        }
+        let later = match self.random.below(24) {
+            0..=2 => day,
+            3 | 4 => day.saturating_sub(self.random.between(1, 3)),
+            5 => self.random.between(0, day),
+            6 => day + self.random.between(10, 300),
+            7 if self.random.chance(100) => MAX_DAY - self.random.below(2),
+            _ => day + self.random.between(1, 3),
+        };
+        later.min(MAX_DAY)
+    }
+
+    fn day_out_of_range(&mut self) -> u32 {
+        self.random
+            .pick(&[MAX_DAY + 1, MAX_DAY + 2, 2 * MAX_DAY, TOP, MAX_WORD])
+            .unwrap_or(MAX_WORD)
+    }
+
+    /// derive_cap's last day: often near the store's day, so that it is over soon or already; else
+    /// near the parent's, anywhere, or the last of all; by a fault out of range.
+    fn last_day(&mut self, day: u32, parent: u32) -> u32 {
+        if self.fault() {
+            return self.day_out_of_range();
+        }
+        let last = if self.random.chance(self.profile.seasons) {
+            match self.random.below(6) {
+                0 => day.saturating_sub(1),
+                1 => day,
+                2 => day + 1,
+                _ => day + self.random.between(0, 12),
+            }
+        } else {
+            match self.random.below(12) {
+                0 => parent,
+                1 => parent + 1,
+                2 => parent.saturating_sub(1).max(day),
+                3 => self.random.between(day, MAX_DAY),
+                _ => MAX_DAY,
+            }
+        };
+        last.min(MAX_DAY)
     }
 
     /// The length of an answer buffer or a scratch of which so many are needed; now and then it is
@@ -226,7 +293,9 @@ impl Generator {
     pub(crate) fn target(&mut self, store: &Store, caller: Name, number: u32) -> Option<Place> {
         let right = call_kind(number).map_or(0, |kind| kind.right);
         let lacking = self.fault() || self.fault();
-        let unsuited = self.fault() || self.fault();
+        let expired = self.fault() || self.random.chance(40);
+        // no master is expired
+        let unsuited = self.fault() || self.fault() || (expired && number == 7);
         let own = self.random.chance(self.profile.own);
         let from_master = number == 5 && self.random.chance(self.profile.master);
         if let Some(place) = self.derived_from(store, number) {
@@ -234,6 +303,7 @@ impl Generator {
         }
         let suits = |(place, capability): &(&Place, &Capability)| {
             (lacking != (capability.rights & right != 0))
+                && expired == capability.expired(store.day)
                 && (unsuited || suits(number, store.objects.get(&place.0), capability))
                 && (!from_master || capability.parent.is_none())
         };
@@ -268,13 +338,14 @@ impl Generator {
         drawn
     }
 
-    /// The newest capability, for a derive_cap that starts from it.
+    /// The newest capability, for a derive_cap that starts from it; not an expired one.
     fn derived_from(&mut self, store: &Store, number: u32) -> Option<Place> {
         if self.drawn.is_some_and(|drawn| store.capabilities.contains_key(&drawn)) {
             self.newest = self.drawn;
         }
         let newest = self.newest?;
-        let lives = store.capabilities.contains_key(&newest);
+        let found = store.capabilities.get(&newest);
+        let lives = found.is_some_and(|newest| !newest.expired(store.day));
         (number == 5 && lives && self.random.chance(self.profile.newest)).then_some(newest)
     }
 
@@ -391,7 +462,9 @@ impl Generator {
             (start, end) = (end, start);
         }
         let limit = self.limit(found.map_or(0, |c| c.moneyword));
-        Action::DeriveCap { mask: self.rights(), start, end, limit, p1, p2: self.word() }
+        let last_day = self.last_day(store.day, found.map_or(0, |c| c.last_day));
+        let mask = self.rights();
+        Action::DeriveCap { mask, start, end, limit, last_day, p1, p2: self.word() }
     }
 
     /// derive_cap's limit beside the parent's moneyword: below, at or above it, 0, or the largest.
@@ -475,16 +548,18 @@ impl Generator {
         }
     }
 
-    /// The numbers of the call's line; half of those with the default limit leave it out.
+    /// The numbers of the call's line; half of those with the default last day leave it out, and
+    /// half of these, where the limit is the default one, that too.
     fn line_numbers(&mut self, call: &Call) -> Vec<u32> {
         let mut numbers = script::call_numbers(call);
-        let action = match &call.operation {
-            Operation::On(_, action) => Some(action),
-            _ => None,
+        let Operation::On(_, Action::DeriveCap { limit, last_day, .. }) = call.operation else {
+            return numbers;
         };
-        let default = matches!(action, Some(Action::DeriveCap { limit: DEFAULT_LIMIT, .. }));
-        if default && self.random.chance(500) {
-            // before p1 and p2
+        // each stands before p1 and p2, when those after it are out
+        for default in [last_day == DEFAULT_LAST_DAY, limit == DEFAULT_LIMIT] {
+            if !(default && self.random.chance(500)) {
+                break;
+            }
             numbers.remove(numbers.len() - 3);
         }
         numbers

@@ -69,7 +69,7 @@ pub const LENGTHS: [Scene<Hooked>; 6] = [
 ];
 
 /// What else both must meet on a well-formed store.
-const OF_BOTH: [Scene<Hooked>; 9] = [
+const OF_BOTH: [Scene<Hooked>; 10] = [
     ("nothing", DONE, |hooked| length(hooked) == Some(0)),
     ("start after end", OUT_OF_RANGE, |hooked| hooked.start > hooked.end),
     ("too long a range", OUT_OF_RANGE, |hooked| length(hooked) > Some(MAX_TRANSFER)),
@@ -77,6 +77,7 @@ const OF_BOTH: [Scene<Hooked>; 9] = [
     ("the caller does not run", NOT_RUNNING, |_| true),
     ("the caller cannot pay", CANNOT_PAY, |_| true),
     ("no such capability", NOT_FOUND, |_| true),
+    ("an expired capability", EXPIRED, |_| true),
     ("no right", RIGHT_MISSING, |_| true),
     ("outside the window", OUTSIDE_WINDOW, |_| true),
 ];

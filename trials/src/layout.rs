@@ -5,7 +5,7 @@ use std::marker::PhantomData;
 /// What has a slot: a message's slot is 4 times its object's and its place in the box.
 #[derive(Clone, Copy, Debug, PartialEq, Eq)]
 pub enum Record {
-    /// The store itself, for the heads of chains and the house.
+    /// The store itself, for the heads of chains, the house and the day.
     Store,
     Object,
     Message,
@@ -51,7 +51,7 @@ impl<T> Field<T> {
 }
 
 pub const BYTES: usize = 37_642;
-pub const LINKS: usize = 3_920;
+pub const LINKS: usize = 4_434;
 pub const WORDS: usize = 3_021;
 
 pub const VOLUME: Field<u8> = Field::new("VOLUME", 0, Record::Object, 1);
@@ -80,6 +80,8 @@ pub const NEXT_CAP: Field<u16> = Field::new("NEXT_CAP", 1_868, Record::Capabilit
 pub const PREV_CAP: Field<u16> = Field::new("PREV_CAP", 2_381, Record::Capability, 1);
 pub const RIGHTS: Field<u16> = Field::new("RIGHTS", 2_894, Record::Capability, 1);
 pub const NEXT_BLOCK: Field<u16> = Field::new("NEXT_BLOCK", 3_407, Record::Block, 1);
+pub const LAST_DAY: Field<u16> = Field::new("LAST_DAY", 3_920, Record::Capability, 1);
+pub const DAY: Field<u16> = Field::new("DAY", 4_433, Record::Store, 1);
 
 pub const HOUSE: Field<u32> = Field::new("HOUSE", 0, Record::Store, 1);
 pub const CASH: Field<u32> = Field::new("CASH", 1, Record::Object, 1);
@@ -95,7 +97,7 @@ pub const END: Field<u32> = Field::new("END", 2_508, Record::Capability, 1);
 /// The rows of each slice, in order.
 pub const BYTE_FIELDS: [Field<u8>; 9] =
     [VOLUME, FLAG, SUSPENDED, WAITING, TERMINATED, COUNT, LENGTH, TEXT, DATA];
-pub const LINK_FIELDS: [Field<u16>; 16] = [
+pub const LINK_FIELDS: [Field<u16>; 18] = [
     OBJECTS,
     FREE_OBJECTS,
     FREE_CAPS,
@@ -112,6 +114,8 @@ pub const LINK_FIELDS: [Field<u16>; 16] = [
     PREV_CAP,
     RIGHTS,
     NEXT_BLOCK,
+    LAST_DAY,
+    DAY,
 ];
 pub const WORD_FIELDS: [Field<u32>; 10] =
     [HOUSE, CASH, LOCK1, LOCK2, SUM, P1, P2, MONEY, START, END];

@@ -3,7 +3,7 @@
 //! `generate`, with `profiles` and `random`, makes random calls and scripts (`make-script`);
 //! `conditions`, `scenes` and `coverage` count what they meet (`coverage`). `picks` makes picks of
 //! the loom drive, `hooks` reads and writes by hook, `bills` those of royalties, and `counts`
-//! questions for the number of passwords; `met` counts what those meet. `edges` is 01's edges as scripts; `examples` prints answered scripts as
+//! questions for the number of passwords; `met` counts what those meet. `edges` is 01's edges and 02's as scripts; `examples` prints answered scripts as
 //! definitions (`script-table`).
 //!
 //! `raw` is a store in slices (`layout` has the offsets, `encode` lays a store out), `oracle` and

@@ -1,5 +1,5 @@
-//! 01's sentence "A store is well formed when ..", checked on slices of any length and content,
-//! clause by clause. Chains are collected into lists and sets are compared; nothing is marked
+//! 01's sentence "A store is well formed when ..", and what 02 adds to it, checked on slices of any
+//! length and content, clause by clause. Chains are collected into lists and sets are compared; nothing is marked
 //! and nothing recurs. Written to be read, not to be fast.
 
 use crate::layout::*;
@@ -142,15 +142,18 @@ fn process_holds(raw: &RawStore, object: usize) -> bool {
         && raw.get(LOCK1, object) < TOP
 }
 
-/// "every object has one tree with one sound master, whose window is 0 to the size"
+/// "every object has one tree with one sound master, whose window is 0 to the size", and whose last
+/// day is 65,535
 fn master_holds(raw: &RawStore, object: usize, master: usize) -> bool {
     let links = [OWNER, PARENT, NEXT_CAP, PREV_CAP].map(|field| raw.link(field, master));
     let window = (raw.get(START, master), raw.get(END, master));
-    links == [object, 0, 0, 0] && window == (0, raw.get(SIZE, object).into())
+    links == [object, 0, 0, 0]
+        && window == (0, raw.get(SIZE, object).into())
+        && u32::from(raw.get(LAST_DAY, master)) == MAX_DAY
 }
 
-/// "A record is sound when its links agree with its neighbours'", and "each child's rights and
-/// window lie in its parent's".
+/// "A record is sound when its links agree with its neighbours'", "each child's rights and window
+/// lie in its parent's", and its last day is not after its parent's.
 fn family_holds(raw: &RawStore, parent: usize, chain: &[usize]) -> bool {
     let owner = raw.link(OWNER, parent);
     let mut previous = 0;
@@ -166,6 +169,7 @@ fn lies_in(raw: &RawStore, child: usize, parent: usize) -> bool {
     raw.get(RIGHTS, child) & !raw.get(RIGHTS, parent) == 0
         && raw.get(START, child) >= raw.get(START, parent)
         && raw.get(END, child) <= raw.get(END, parent)
+        && raw.get(LAST_DAY, child) <= raw.get(LAST_DAY, parent)
 }
 
 /// Rights are 0 to 8191, and a window does not start after its end.

@@ -84,7 +84,7 @@ impl Generator {
 }
 
 /// Every answer to a pick on a well-formed store, with the edges of each range.
-pub const SCENES: [Scene<Pick>; 28] = [
+pub const SCENES: [Scene<Pick>; 29] = [
     ("one pick", DONE, |pick| pick.repeat.picks == 1),
     ("no counts", DONE, |pick| pick.repeat.counts == 0),
     ("fewer counts than picks", DONE, |pick| (1..pick.repeat.picks).contains(&pick.repeat.counts)),
@@ -114,6 +114,7 @@ pub const SCENES: [Scene<Pick>; 28] = [
     ("the caller does not run", NOT_RUNNING, |_| true),
     ("the caller cannot pay", CANNOT_PAY, |_| true),
     ("no such capability", NOT_FOUND, |_| true),
+    ("an expired capability", EXPIRED, |_| true),
     ("no right to read", RIGHT_MISSING, |_| true),
     ("another length", WRONG_LENGTH, |pick| pick.repeat.picks < MAX_PICKS),
     ("another length, the most picks", WRONG_LENGTH, |pick| pick.repeat.picks == MAX_PICKS),

@@ -191,12 +191,14 @@ impl<const PAIRS: bool> Pass<'_, PAIRS> {
         at == 0
     }
 
-    /// What a master has beyond a sound record: no sibling, and the whole window.
+    /// What a master has beyond a sound record: no sibling, the whole window, and the last day of
+    /// all.
     fn master(&mut self, master: usize, size: usize) -> bool {
         self.total += u64::from(self.word(MONEY, master));
         self.link(NEXT_CAP, master) == 0
             && self.word(START, master) == 0
             && self.word(END, master) as usize == size
+            && self.link(LAST_DAY, master) == MAX_DAY as usize
     }
 
     /// A record whose links agree with its neighbours' and whose children are sound.
@@ -252,7 +254,8 @@ impl<const PAIRS: bool> Pass<'_, PAIRS> {
             && (parent == 0
                 || rights & !self.link(RIGHTS, parent) == 0
                     && self.word(START, parent) <= start
-                    && end <= self.word(END, parent))
+                    && end <= self.word(END, parent)
+                    && self.link(LAST_DAY, at) <= self.link(LAST_DAY, parent))
     }
 
     /// Every record not met so far is free and in its chain.

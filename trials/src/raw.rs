@@ -123,7 +123,8 @@ pub fn decode(raw: &RawStore) -> Option<Store> {
     if !raw.has_lengths() {
         return None;
     }
-    let mut store = Store { house: raw.get(HOUSE, 0), ..Store::default() };
+    let (house, day) = (raw.get(HOUSE, 0), raw.get(DAY, 0).into());
+    let mut store = Store { house, day, ..Store::default() };
     let mut names = [None; Record::Object.slots()];
     for object in raw.chain(raw.head(OBJECTS), NEXT_OBJECT)? {
         let name = decode_name(raw, object);
@@ -193,5 +194,6 @@ fn decode_capability(raw: &RawStore, at: usize) -> Capability {
         start: raw.get(START, at),
         end: raw.get(END, at),
         rights: raw.get(RIGHTS, at).into(),
+        last_day: raw.get(LAST_DAY, at).into(),
     }
 }

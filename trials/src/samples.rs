@@ -10,7 +10,7 @@ use crate::random::Random;
 use crate::raw::RawStore;
 use reference::call::Name;
 use reference::kernel::{Capability, Object, Store};
-use reference::numbers::{MAX_CAPS, MAX_RIGHTS};
+use reference::numbers::{MAX_CAPS, MAX_DAY, MAX_RIGHTS};
 use std::collections::BTreeSet;
 
 /// A random run of a profile, with something done after each call.
@@ -96,7 +96,8 @@ impl Shape {
     }
 }
 
-/// A store of so many processes, each with so many bytes and a tree of so many capabilities.
+/// A store of so many processes, each with so many bytes and a tree of so many capabilities, some
+/// of which have a last day that comes soon. It is day 0, and none is expired.
 pub fn shaped(objects: u32, size: usize, tree: u32, shape: Shape, random: &mut Random) -> Store {
     assert!(objects * tree <= MAX_CAPS as u32);
     let mut store = Store::default();
@@ -105,9 +106,15 @@ pub fn shaped(objects: u32, size: usize, tree: u32, shape: Shape, random: &mut R
         let object = Object { bytes: random.bytes(size), process: true, ..Object::default() };
         store.objects.insert(name, object);
         let p1 = distinct(tree, random);
+        let mut last_days = vec![MAX_DAY];
         for at in 0..tree {
-            let parent = (at > 0).then(|| p1[shape.parent(at, random) as usize]);
-            let capability = whole(random.below(u32::MAX), parent, size);
+            let parent = (at > 0).then(|| shape.parent(at, random) as usize);
+            if let Some(parent) = parent {
+                last_days.push(last_day(last_days[parent], random));
+            }
+            let parent = parent.map(|parent| p1[parent]);
+            let last_day = last_days[at as usize];
+            let capability = whole(random.below(u32::MAX), parent, size, last_day);
             store.capabilities.insert((name, p1[at as usize]), capability);
         }
     }
@@ -123,7 +130,16 @@ fn distinct(count: u32, random: &mut Random) -> Vec<u32> {
     shuffled(found, random)
 }
 
-fn whole(p2: u32, parent: Option<u32>, size: usize) -> Capability {
+/// The last day of a child: mostly its parent's or the one before, now and then an early one.
+fn last_day(parent: u32, random: &mut Random) -> u32 {
+    match random.below(40) {
+        0 => random.between(0, parent.min(600)),
+        1..=9 => parent.saturating_sub(1),
+        _ => parent,
+    }
+}
+
+fn whole(p2: u32, parent: Option<u32>, size: usize, last_day: u32) -> Capability {
     let end = u32::try_from(size).unwrap_or(u32::MAX);
-    Capability { p2, parent, moneyword: 1000, start: 0, end, rights: MAX_RIGHTS }
+    Capability { p2, parent, moneyword: 1000, start: 0, end, rights: MAX_RIGHTS, last_day }
 }

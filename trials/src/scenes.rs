@@ -1,12 +1,12 @@
 //! Scenes that random runs must reach beside the refusals: locked callers, processes that act
 //! on themselves, names used again, limits on each side of a moneyword, the least scratch and longer
-//! ones, and waits with mail and without.
+//! ones, waits with mail and without, and days: those that are set, last days on each side of the
+//! parent's, and what becomes of capabilities that are expired.
 
-use reference::call::{call_kind, Action, Call, Operation};
+use reference::call::{call_kind, Action, Call, Key, Operation};
 use reference::claims::CheckedRun;
-use reference::numbers::{
-    DONE, MAX_MESSAGES, MAX_WORD, MIN_SCRATCH, NOT_FOUND, NOT_REVIVABLE, TOP,
-};
+use reference::kernel::{Object, Place, Store};
+use reference::numbers::*;
 use std::cmp::Ordering;
 
 /// The scenes that a call, answered with this code, makes on the run before it.
@@ -34,6 +34,7 @@ pub fn scenes(before: &CheckedRun, call: &Call, code: u32) -> Vec<String> {
             if code == DONE {
                 met.extend(cleared(action, call.scratch).map(str::to_owned));
             }
+            met.extend(seasons(&before.store, call, *key, action, code).map(str::to_owned));
         }
         Operation::MakeObj { drawn, .. } if code == DONE => {
             let lines = &before.ledger.lines;
@@ -48,9 +49,93 @@ pub fn scenes(before: &CheckedRun, call: &Call, code: u32) -> Vec<String> {
             let caller = before.store.objects.get(&call.caller);
             met.extend(caller.map(|c| waited(c.messages.len()).to_owned()));
         }
+        Operation::SetDay { day } => met.extend(days(&before.store, call, *day, code)),
         _ => {}
     }
     met
+}
+
+/// What a call of the host, answered with this code, meets.
+fn days(store: &Store, call: &Call, day: u32, code: u32) -> Vec<String> {
+    let caller = store.objects.get(&call.caller);
+    let ends = |to: u32| {
+        let ended = |last_day: u32| (store.day..to).contains(&last_day);
+        store.capabilities.values().any(|c| ended(c.last_day))
+    };
+    let met: [(bool, u32, &str); 16] = [
+        (day == 0, DONE, "day 0"),
+        (day == store.day && day > 0, DONE, "the same day again"),
+        (day == store.day + 1, DONE, "the next day"),
+        (day > store.day + 9, DONE, "a far later day"),
+        (day == MAX_DAY, DONE, "the last day of all"),
+        (ends(day), DONE, "a day on which some expire"),
+        (caller.is_some_and(Object::runs), DONE, "a day set with a caller that runs"),
+        (caller.is_some_and(|c| !c.runs()), DONE, "a day set with a caller that does not run"),
+        (caller.is_none(), DONE, "a day set with an absent caller"),
+        (call.caller.volume > MAX_VOLUME, DONE, "a day set with a volume out of range"),
+        (call.caller.serial > MAX_SERIAL, DONE, "a day set with a serial out of range"),
+        (call.buffer < MIN_BUFFER, DONE, "a day set with a short buffer"),
+        (call.scratch < MIN_SCRATCH, DONE, "a day set with a short scratch"),
+        (store.day.checked_sub(1) == Some(day), EARLIER_DAY, "the day before"),
+        (day == MAX_DAY + 1, OUT_OF_RANGE, "a day one too large"),
+        (day == MAX_WORD, OUT_OF_RANGE, "the largest number as a day"),
+    ];
+    let met = met.into_iter().filter(|(meets, answer, _)| *meets && *answer == code);
+    met.map(|(.., scene)| scene.to_owned()).collect()
+}
+
+/// What a call that presents a capability meets that has to do with days.
+fn seasons<'a>(
+    store: &'a Store,
+    call: &'a Call,
+    key: Key,
+    action: &'a Action,
+    code: u32,
+) -> impl Iterator<Item = &'static str> + 'a {
+    let place = store.find(call.caller, key);
+    let found = place.and_then(|place| store.capabilities.get(&place));
+    let last_day = found.map_or(0, |found| found.last_day);
+    let right = call_kind(action.number()).map_or(0, |kind| kind.right);
+    let lacks = found.is_some_and(|found| found.rights & right == 0);
+    let expired = |at: &Place| store.capabilities.get(at).is_some_and(|c| c.expired(store.day));
+    let ends = |all: fn(&Action) -> bool| {
+        let below = || place.map(|place| store.with_descendants(place)).unwrap_or_default();
+        all(action) && code == DONE && below().iter().any(expired)
+    };
+    let new_p1 = match action {
+        Action::DeriveCap { p1, .. } | Action::RenameObj { p1, .. } => Some(*p1),
+        _ => None,
+    };
+    let blocked = new_p1.is_some_and(|p1| expired(&(key.name, p1)));
+    let derives = matches!(action, Action::DeriveCap { .. });
+    let given = match action {
+        Action::DeriveCap { last_day, .. } => Some(*last_day),
+        _ => None,
+    };
+    let full = || store.capabilities.keys().any(expired);
+    let on_last = last_day == store.day;
+    let met: [(bool, u32, &str); 15] = [
+        (on_last && last_day < MAX_DAY, DONE, "done on its last day"),
+        (on_last && last_day == MAX_DAY, DONE, "done on the last day of all"),
+        (last_day + 1 == store.day, EXPIRED, "refused on the day after its last"),
+        (key.p1 >= TOP, EXPIRED, "expired, top bit set"),
+        (lacks, EXPIRED, "expired, and the right missing"),
+        (ends(|action| *action == Action::DeleteCap), DONE, "delete_cap ends an expired one"),
+        (
+            ends(|action| matches!(action, Action::RenameObj { .. })),
+            DONE,
+            "rename_obj ends an expired one",
+        ),
+        (blocked && derives, TAKEN, "derive_cap by an expired one's p1"),
+        (blocked && !derives, TAKEN, "rename_obj by an expired one's p1"),
+        (code == NO_SPACE && derives && full(), NO_SPACE, "no space, with expired ones living"),
+        (given.is_some_and(|given| given < store.day), DONE, "derived, and over already"),
+        (given == Some(store.day), DONE, "derived for the day alone"),
+        (given.is_some_and(|given| given < last_day), DONE, "last day before the parent's"),
+        (given == Some(last_day) && last_day < MAX_DAY, DONE, "last day at the parent's"),
+        (given.is_some_and(|given| given > last_day), DONE, "last day after the parent's"),
+    ];
+    met.into_iter().filter(move |(meets, answer, _)| *meets && *answer == code).map(|met| met.2)
 }
 
 /// How derive_cap's limit stands to the parent's moneyword, where that is not 0.
@@ -88,7 +173,7 @@ fn waited(messages: usize) -> &'static str {
 }
 
 /// The scenes that must be met.
-pub const SCENES: [&str; 31] = [
+pub const SCENES: [&str; 62] = [
     "locked caller, top bit set, done",
     "locked caller, top bit set, answers 5",
     "locked caller, top bit clear, done",
@@ -120,4 +205,35 @@ pub const SCENES: [&str; 31] = [
     "wait with an empty box",
     "wait with mail",
     "wait with a full box",
+    "day 0",
+    "the same day again",
+    "the next day",
+    "a far later day",
+    "the last day of all",
+    "a day on which some expire",
+    "a day set with a caller that runs",
+    "a day set with a caller that does not run",
+    "a day set with an absent caller",
+    "a day set with a volume out of range",
+    "a day set with a serial out of range",
+    "a day set with a short buffer",
+    "a day set with a short scratch",
+    "the day before",
+    "a day one too large",
+    "the largest number as a day",
+    "done on its last day",
+    "done on the last day of all",
+    "refused on the day after its last",
+    "expired, top bit set",
+    "expired, and the right missing",
+    "delete_cap ends an expired one",
+    "rename_obj ends an expired one",
+    "derive_cap by an expired one's p1",
+    "rename_obj by an expired one's p1",
+    "no space, with expired ones living",
+    "derived, and over already",
+    "derived for the day alone",
+    "last day before the parent's",
+    "last day at the parent's",
+    "last day after the parent's",
 ];

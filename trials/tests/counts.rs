@@ -1,5 +1,6 @@
 //! Random questions for the number of passwords on the reference, between the calls of random runs:
-//! the answer by a second writing, that counts capabilities, every scene met and every right asked.
+//! the answer by a second writing, that counts capabilities which are not expired, every scene met
+//! and every right asked.
 //! And the examples of the verified definitions.
 
 mod table;
@@ -25,7 +26,8 @@ fn expected(store: &Store, asked: &PasswordCount) -> (u32, u32) {
         return (NOT_RUNNING, 0);
     }
     let of = store.capabilities.iter().filter(|((name, _), _)| *name == asked.object);
-    (DONE, of.filter(|(_, found)| found.rights & asked.right == asked.right).count() as u32)
+    let of = of.filter(|(_, found)| found.rights & asked.right == asked.right);
+    (DONE, of.filter(|(_, found)| store.day <= found.last_day).count() as u32)
 }
 
 fn answered(store: &Store, asked: &PasswordCount) -> (u32, u32) {
@@ -58,7 +60,7 @@ fn random_counts() {
 const EDGES: &str = include_str!("../../crates/question_count/specs/Edges.antt");
 
 /// The lines that make the store of the examples.
-const LINES: [&str; 9] = [
+const LINES: [&str; 12] = [
     "1000 5 9",
     "1 0 1 2 128 0 8191 7 11 13",
     "5 0 1 2 7 11 13 8191 0 128 2147483658 13",
@@ -68,6 +70,9 @@ const LINES: [&str; 9] = [
     "5 0 1 2 7 21 13 2 0 64 51 13",
     "1 0 1 3 0 1 8191 8 61 13",
     "12 0 1 0 1 5 9 6 0",
+    "5 0 1 2 7 11 13 8191 0 128 0 3 71 13",
+    "5 0 1 2 7 11 13 8191 0 128 0 4 81 13",
+    "17 4",
 ];
 
 fn hall() -> Store {

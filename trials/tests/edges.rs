@@ -1,4 +1,4 @@
-//! 01's edges, and each call's fee and right, on the reference.
+//! 01's edges and 02's, and each call's fee, right and last day, on the reference.
 
 use reference::script::run_script;
 use trials::edges::{answers, cases, check, script, OBJECT, PROCESS};
@@ -81,6 +81,42 @@ fn rights() {
         assert!(done.starts_with('0') || done == "16", "{call}: {done}");
         assert_eq!(answer(8191 - right), "6", "{call}");
         assert_eq!(answer(0), "6", "{call}");
+    }
+}
+
+/// Each call that presents a capability, by one whose last day is over: 19 with the right alone,
+/// with all and with none, and the fee is paid; on the last day it is not 19.
+#[test]
+fn last_days() {
+    let table = [
+        ("2", 1, " 0 0", 1),
+        ("3", 2, " 0 0", 2),
+        ("4", 4, "", 1),
+        ("5", 8, " 0 0 0 3 3", 5),
+        ("6", 16, "", 5),
+        ("7", 32, " 3 3", 10),
+        ("8", 64, " 0", 2),
+        ("9", 128, " 0", 2),
+        ("10", 256, "", 1),
+        ("11", 512, "", 1),
+        ("12", 1024, " 1 1", 5),
+        ("13", 2048, " 0", 2),
+        ("16", 4096, " 1", 5),
+    ];
+    for (call, right, rest, fee) in table {
+        for rights in [right, 8191, 0] {
+            let derive = format!("5 0 1 1 2 11 12 {rights} 0 0 4294967295 70 21 22");
+            let line = format!("{call} 0 1 1 2 21 22{rest}");
+            let script = |day| format!("1000 5 9\n{PROCESS}{derive}\n17 {day}\n{line}\n");
+            let over = run(&script(71));
+            // made, resumed and derived for 26 before
+            let total = format!("{} 0 0 {}", 974 - fee, 26 + fee);
+            assert_eq!(over[4..], ["19".to_owned(), total], "{line}");
+            let answer = &run(&script(70))[4];
+            let expected: &[&str] = if rights == 0 { &["6"] } else { &["0", "11", "16"] };
+            let code = answer.split(' ').next().unwrap_or_default();
+            assert!(expected.contains(&code), "{line}: {answer}");
+        }
     }
 }
 

@@ -1,6 +1,7 @@
 //! The tables of docs/MANUAL.md say what the reference has: calls, fees, rights, refusals, limits.
 
-use reference::call::CALLS;
+use reference::call::{CALLS, SET_DAY};
+use reference::numbers::*;
 use std::collections::BTreeMap;
 use trials::coverage::refusals;
 
@@ -37,18 +38,25 @@ fn calls() {
     let rights = constants(NUMBERS.split_once("pub mod right").expect("the rights").1);
     let calls = rows("## The calls");
     let calls: Vec<_> = calls.iter().filter(|row| number(row[0]).is_some()).collect();
+    let (host, calls) = calls.split_last().expect("calls");
     assert_eq!(calls.len(), CALLS.len());
     for (row, kind) in calls.iter().zip(CALLS) {
         let [at, name, fee, right, _, then, _] = row[..] else { panic!("{row:?}") };
         assert_eq!((number(at), name), (Some(kind.number), kind.name));
         assert_eq!(number(fee), Some(kind.fee), "{name}");
         assert_eq!(if right.is_empty() { 0 } else { rights[right] }, kind.right, "{name}");
-        let shared = if right.is_empty() { 4 } else { 6 };
+        let shared = [OUT_OF_RANGE, NOT_RUNNING, CANNOT_PAY, NOT_FOUND, EXPIRED, RIGHT_MISSING];
+        let shared = if right.is_empty() { &shared[..3] } else { &shared };
         let met = refusals(kind.number);
-        let own: Vec<u32> = met.into_iter().filter(|refusal| *refusal > shared).collect();
+        let own: Vec<u32> = met.into_iter().filter(|refusal| !shared.contains(refusal)).collect();
         let then: Vec<u32> = then.split(", ").filter_map(number).collect();
         assert_eq!(then, own, "{name}");
     }
+    // the host's call has no fee and no right, and 2 of its own
+    let [at, name, "", "", _, then, _] = host[..] else { panic!("{host:?}") };
+    assert_eq!((number(at), name), (Some(SET_DAY), trials::coverage::name(SET_DAY)));
+    let then: Vec<u32> = then.split(", ").filter_map(number).collect();
+    assert_eq!(then, refusals(SET_DAY));
 }
 
 #[test]
@@ -64,7 +72,7 @@ fn rights_answers_and_limits() {
     for row in rows("### Answers") {
         said.extend(number(row[0]).map(|n| (row[1], n)));
     }
-    assert_eq!(said.len(), 19);
+    assert_eq!(said.len(), 21);
     for row in rows("### Limits").iter().skip(2) {
         let numbers = row[1].split(", ").map(|n| number(n).expect("a number"));
         said.extend(row[0].split(", ").zip(numbers));

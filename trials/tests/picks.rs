@@ -46,7 +46,7 @@ fn expected_code(store: &Store, pick: &Pick) -> u32 {
     }
     let held = holding(store, &read(pick, 0));
     let of_question = |c: &&Condition| {
-        [OUT_OF_RANGE, NOT_RUNNING, NOT_FOUND, RIGHT_MISSING].contains(&c.refusal)
+        [OUT_OF_RANGE, NOT_RUNNING, NOT_FOUND, EXPIRED, RIGHT_MISSING].contains(&c.refusal)
             && c.case != "buffer"
     };
     if let Some(condition) = held.iter().find(of_question) {

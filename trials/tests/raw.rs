@@ -73,6 +73,25 @@ fn full_stores_are_well_formed() {
     }
 }
 
+/// A store of before there were days becomes one as docs/LAYOUT.md says: it is day 0, and nothing has
+/// a last day but the last of all.
+#[test]
+fn stores_of_before_days() {
+    let mut random = Random::new(6);
+    stores_of_runs(2, 50, &mut |store: &Store| {
+        let mut store = store.clone();
+        store.day = 0;
+        store.capabilities.values_mut().for_each(|capability| capability.last_day = 65_535);
+        let mut raw = encode(&store, &mut random);
+        raw.links.truncate(3_920);
+        assert!(!answer(&raw, &store));
+        raw.links.extend([65_535; 513]);
+        raw.links.push(0);
+        assert!(answer(&raw, &store));
+        assert_eq!(decode(&raw), Some(store));
+    });
+}
+
 /// Every kind of damage alone: all but the cells of living records have a known answer.
 #[test]
 fn damages_are_found() {

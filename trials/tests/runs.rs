@@ -1,10 +1,9 @@
 //! Random checked runs over all profiles: demand 3, the money total and the well-formed store
 //! after every call, and the coverage of answers, of pairs of refusals and of their cases.
 
-use reference::call::call_kind;
-use trials::coverage::checked_runs;
+use reference::call::SET_DAY;
+use trials::coverage::{checked_runs, name, PRESENTING};
 
-const PRESENTING: &[u32] = &[2, 3, 4, 5, 6, 7, 8, 9, 10, 11, 12, 13, 16];
 const ALL: &[u32] = &[1, 2, 3, 4, 5, 6, 7, 8, 9, 10, 11, 12, 13, 14, 15, 16];
 
 /// Every case of a refusal that must be met, for which calls.
@@ -15,11 +14,12 @@ const CASES: &[(&[u32], u32, &[&str])] = &[
     (&[1], 2, &["new volume", "new serial", "size", "flag", "rights"]),
     (&[2], 2, &["start after end", "over 256 bytes", "buffer"]),
     (&[3], 2, &["start after end", "over 256 bytes", "data length"]),
-    (&[5], 2, &["mask", "start after end"]),
+    (&[5], 2, &["mask", "start after end", "last day"]),
     (&[6, 7], 2, &["scratch"]),
     (&[12], 2, &["lock word"]),
     (&[13], 2, &["message"]),
     (&[14], 2, &["buffer"]),
+    (&[SET_DAY], 2, &["day"]),
     (ALL, 3, &["absent", "data object", "suspended", "waiting", "terminated"]),
     (PRESENTING, 5, &["no object", "no such p1", "wrong p2"]),
     (&[2, 3], 7, &["start", "end"]),
@@ -30,6 +30,8 @@ const CASES: &[(&[u32], u32, &[&str])] = &[
     (&[1], 13, &["objects", "capabilities", "blocks"]),
     (&[5], 13, &["capabilities"]),
     (&[16], 16, &["not terminated", "sum 0"]),
+    (PRESENTING, 19, &["expired"]),
+    (&[SET_DAY], 20, &["earlier day"]),
 ];
 
 #[test]
@@ -45,8 +47,7 @@ fn checked_runs_cover_everything() {
             let met = coverage.cases.keys().any(|(number, condition)| {
                 (number, condition.refusal, condition.case) == (call, *refusal, *case)
             });
-            let name = call_kind(*call).map_or("unknown", |kind| kind.name);
-            assert!(met, "not met: {name} {refusal} {case}");
+            assert!(met, "not met: {} {refusal} {case}", name(*call));
         }
     }
     let peaks = coverage.peaks;

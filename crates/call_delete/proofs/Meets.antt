@@ -47,7 +47,7 @@ pick-or false b x y = refl
 pub end-twice : (s : State) (t u v : ℕ → Bool) → ((i : ℕ) → (u i || t i) ≡ v i)
     → endWhere (endWhere s t) u ≡ endWhere s v
 unfolding endWhere withMoney withCap
-end-twice s t u v h = state-is (endWhere (endWhere s t) u) (endWhere s v) refl refl refl refl refl refl refl
+end-twice s t u v h = state-is (endWhere (endWhere s t) u) (endWhere s v) refl refl refl refl refl refl refl refl
     (fun-ext (λ i. pick-or (u i) (t i) noCap (s .cap i)
     ∙ ap (λ (x : Bool). elim x as (λ _. Cap) [ true ↦ noCap | false ↦ s .cap i ]) (h i)))
     (fun-ext (λ i. pick-or (u i) (t i) 0 (s .money i)

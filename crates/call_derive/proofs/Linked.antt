@@ -10,7 +10,7 @@ use Rattle.rules.specs.Store.{Cap}
 use Rattle.rules.proofs.Slots.{at-here, at-else}
 use Rattle.layout.specs.Layout as Layout
 use Rattle.layout.specs.Rows.{masterOf, serialOf, sizeOf, firstBlockOf, nextObjectOf, nextBlockOf}
-use Rattle.layout.specs.Rows.{ownerOf, parentOf, firstChildOf, nextCapOf, prevCapOf, rightsOf}
+use Rattle.layout.specs.Rows.{ownerOf, parentOf, firstChildOf, nextCapOf, prevCapOf, rightsOf, lastDayOf}
 use Rattle.layout.proofs.Puts.{Put, put, puts, length-puts, field-puts, field-puts-at, field-kept, head-puts}
 use Rattle.call_grow.specs.Made.{newLinks}
 use Rattle.call_grow.proofs.Making.{OneSlot, one-slot, MadeLinks, made-links}
@@ -34,6 +34,8 @@ pub record Relinked (l m : List ℕ) : Type 0 where
   pub parent-same : parentOf m ≡ parentOf l
   pub next-cap-same : nextCapOf m ≡ nextCapOf l
   pub rights-same : rightsOf m ≡ rightsOf l
+  pub last-day-same : lastDayOf m ≡ lastDayOf l
+  pub day-same : getD m Layout.DAY 0 ≡ getD l Layout.DAY 0
 
 -- k's first child is i, and so is the record before next
 module _ (l : List ℕ) (i k next : ℕ) (long : length l ≡ Layout.LINKS) (low : 1 ≤ k) (high : k ≤ 512)
@@ -58,6 +60,8 @@ module _ (l : List ℕ) (i k next : ℕ) (long : length l ≡ Layout.LINKS) (low
     parent-same = field-kept 512 Layout.PARENT l ws refl (omega arith);
     next-cap-same = field-kept 512 Layout.«NEXT_CAP» l ws refl (omega arith);
     rights-same = field-kept 512 Layout.RIGHTS l ws refl (omega arith);
+    last-day-same = field-kept 512 Layout.«LAST_DAY» l ws refl (omega arith);
+    day-same = head-puts Layout.DAY l (omega arith) ws refl (omega arith);
   }
 
   first-child-put : OneSlot (firstChildOf l) (firstChildOf (puts ws l)) k i

@@ -6,6 +6,7 @@ use mathlib.Core.Logic.{_≢_}
 use mathlib.Core.List.{List}
 use native.Mathlib.Omega.{arith}
 use borrow.Author.Tests.{eq-eqb}
+use Rattle.rules.specs.Limit as Limit
 use Rattle.rules.specs.Slots.{some}
 use Rattle.rules.specs.Store.{Cap, State}
 use Rattle.rules.specs.Rights.{deriveCap, op, asked}
@@ -20,8 +21,8 @@ use Rattle.layout.specs.View.{view}
 use Rattle.layout.specs.Shape.{Shape}
 use Rattle.layout.specs.WellFormed.{WellFormed}
 use Rattle.layout.proofs.Shown.{cap-object, cap-here, money-here}
-use Rattle.layout.proofs.Frame.{state-is, house-same, object-same, bytes-same, lock-same, cash-same, marks-same, box-same}
-use Rattle.layout.proofs.Frame.{cap-same, money-same}
+use Rattle.layout.proofs.Frame.{state-is, house-same, day-same, object-same, bytes-same, lock-same, cash-same, marks-same}
+use Rattle.layout.proofs.Frame.{box-same, cap-same, money-same}
 use Rattle.layout.proofs.Kept.{cells-kept}
 use Rattle.layout.proofs.Shaped.{shaped}
 use Rattle.layout.proofs.FreeCaps.{FirstFree, first-free, caps-full, first-open}
@@ -41,13 +42,14 @@ use Rattle.call_derive.proofs.Shapes.{child-high, made, linked, derived
 relinked-shows : (b w : List ℕ) {l m : List ℕ} → Relinked l m → view b m w ≡ view b l w
 relinked-shows b w {l} {m} R = state-is (view b m w) (view b l w)
     (house-same b l w b m w refl)
+    (day-same b l w b m w (R .day-same))
     (object-same b l w b m w (R .master-same) refl (R .serial-same) (R .size-same) refl)
     (bytes-same b l w b m w (R .master-same) (R .size-same) (R .first-block-same) (R .next-block-same) refl)
     (lock-same b l w b m w (R .master-same) refl refl refl)
     (cash-same b l w b m w (R .master-same) refl refl)
     (marks-same b l w b m w (R .master-same) refl refl refl refl)
     (box-same b l w b m w (R .master-same) refl refl refl refl refl)
-    (cap-same b l w b m w (R .owner-same) (R .parent-same) refl refl refl refl (R .rights-same))
+    (cap-same b l w b m w (R .owner-same) (R .parent-same) refl refl refl refl (R .rights-same) (R .last-day-same))
     (money-same b l w b m w (R .owner-same) refl)
 
 -- a call that is derive_cap takes the capability's slot alone
@@ -68,7 +70,7 @@ module _ {b l w : List ℕ} (f : WellFormed b l w) (c : Call) (me k : ℕ) (h : 
   i = freeCap l
 
   abbrev x : Cap
-  x = childIn l w k (c .rights) (c .range) (c .drawn)
+  x = childIn l w k (c .rights) (c .range) (c .drawn) (c .lastDay)
 
   abbrev m : List ℕ
   m = derivedLinks l i k x (firstChildOf l k)
@@ -144,7 +146,7 @@ module _ {b l w : List ℕ} (f : WellFormed b l w) (c : Call) (me k : ℕ) (h : 
         }
 
   pub derive-meets : op (c .number) ≡ deriveCap
-      → Meets s c me k deriveCap (deriveRun b l w k (c .rights) (c .range) (c .drawn) (c .limit))
+      → Meets s c me k deriveCap (deriveRun b l w k (c .rights) (c .range) (c .drawn) (c .limit) (c .lastDay))
   unfolding deriveRun
   derive-meets e = meets-taken b l w c me k deriveCap taking f (deriveStop b l w k (c .drawn .p1)) (derived b l w k x (c .limit))
       stop-is (λ z. takes (some-free z) e)
@@ -154,9 +156,9 @@ module _ {b l w : List ℕ} (f : WellFormed b l w) (c : Call) (me k : ℕ) (h : 
 free-high : (l : List ℕ) → Shape l → freeCap l ≤ 512
 free-high l s = by-eq (freeCap l) 0 (λ z. omega (arith, z)) (λ nz. first-free l (s .caps) nz .high)
 
-pub derive-asks : {b l w : List ℕ} {k rights : ℕ} → WellFormed b l w → Held l k → rights ≤ 8191
-    → DeriveAsks b l w k rights
-derive-asks {b} {l} {w} {k} f h r =
+pub derive-asks : {b l w : List ℕ} {k rights lastDay : ℕ} → WellFormed b l w → Held l k → rights ≤ Limit.rights
+    → lastDay ≤ Limit.day → DeriveAsks b l w k rights lastDay
+derive-asks {b} {l} {w} {k} f h r d =
     let S = shaped l (f .shape) .cap k (h .live) in
     record {
       sized = f .sized;
@@ -166,4 +168,5 @@ derive-asks {b} {l} {w} {k} f h r =
       child-high = child-high l (f .shape .caps) k (h .live) S;
       free-high = free-high l (f .shape);
       rights-fit = r;
+      day-fits = d;
     }

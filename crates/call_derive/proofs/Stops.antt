@@ -30,24 +30,28 @@ use Rattle.call_derive.specs.Runs.{childIn, IsChild, derivedLinks, money
 
 -- ---- the child
 
-pub child-cells : (l w : List ℕ) (k rights : ℕ) (range : Window) (drawn : Password) → CapSlot k → (v : Window) (q : ℕ)
+pub child-cells : (l w : List ℕ) (k rights : ℕ) (range : Window) (drawn : Password) (lastDay : ℕ) → CapSlot k
+    → (v : Window) (q d : ℕ)
     → v ≡ moved range (windowIn w k)
     → q ≡ both (getD l (Layout.RIGHTS + k) 0) rights
+    → d ≡ min lastDay (getD l (Layout.«LAST_DAY» + k) 0)
     → _≡_ {A = Cap} (record {
       object = getD l (Layout.OWNER + k) 0;
       parent = k;
       password = drawn;
       window = v;
       rights = q;
-    }) (childIn l w k rights range drawn)
+      lastDay = d;
+    }) (childIn l w k rights range drawn lastDay)
 unfolding childIn
-child-cells l w k rights range drawn at v q ev eq =
-    rw (row Layout.RIGHTS l k at, row Layout.OWNER l k at) (λ i. record {
+child-cells l w k rights range drawn lastDay at v q d ev eq ed =
+    rw (row Layout.RIGHTS l k at, row Layout.«LAST_DAY» l k at, row Layout.OWNER l k at) (λ i. record {
       object = getD l (Layout.OWNER + k) 0;
       parent = k;
       password = drawn;
       window = ev i;
       rights = eq i;
+      lastDay = ed i;
     })
 
 -- ---- the child linked; n is the slot of the next sibling, r that of the record made
@@ -81,20 +85,20 @@ module _ {b l w : List ℕ} {k o p1 : ℕ} {t : Bool} (T : Tested b l w k o p1 t
   unfolding deriveStop
   stop-is e f = rw (← object-is, ← T .test, e, f)
 
-module _ {b l w : List ℕ} {k o : ℕ} {t : Bool} (rights : ℕ) (range : Window) (drawn : Password) (limit : ℕ)
+module _ {b l w : List ℕ} {k o : ℕ} {t : Bool} (rights : ℕ) (range : Window) (drawn : Password) (limit lastDay : ℕ)
     (T : Tested b l w k o (drawn .p1) t) {r : Reply} where
-  pub stopped-12 : t ≡ true → Refuses 12 r → Replies r b l w (deriveRun b l w k rights range drawn limit)
+  pub stopped-12 : t ≡ true → Refuses 12 r → Replies r b l w (deriveRun b l w k rights range drawn limit lastDay)
   unfolding deriveRun first _when_
   stopped-12 e R = replies-stopped _ 12 (stop-is T e refl) (omega arith) R
 
-  pub stopped-13 : t ≡ false → freeCap l ≡ 0 → Refuses 13 r → Replies r b l w (deriveRun b l w k rights range drawn limit)
+  pub stopped-13 : t ≡ false → freeCap l ≡ 0 → Refuses 13 r → Replies r b l w (deriveRun b l w k rights range drawn limit lastDay)
   unfolding deriveRun first _when_
   stopped-13 e z R = replies-stopped _ 13 (stop-is T e (eq-eqb (freeCap l) 0 z)) (omega arith) R
 
   -- the record made is the child
   child-made : (n : Name) → n ≡ view b l w .object o .name → Gives (handsBack n drawn) r
-      → (x : NewCap) → IsChild l w k rights range drawn x → {l′ w′ : List ℕ} → Adds l w k (capOf x) (x .next) limit l′ w′
-      → Replies r b l′ w′ (derived b l w k (childIn l w k rights range drawn) limit)
+      → (x : NewCap) → IsChild l w k rights range drawn lastDay x → {l′ w′ : List ℕ} → Adds l w k (capOf x) (x .next) limit l′ w′
+      → Replies r b l′ w′ (derived b l w k (childIn l w k rights range drawn lastDay) limit)
   unfolding derived childIn
   child-made n q H x C A = record {
     none = H .none;
@@ -105,9 +109,9 @@ module _ {b l w : List ℕ} {k o : ℕ} {t : Bool} (rights : ℕ) (range : Windo
   }
 
   pub goes-on : t ≡ false → freeCap l ≢ 0 → (n : Name) → n ≡ view b l w .object o .name → Gives (handsBack n drawn) r
-      → (x : NewCap) → IsChild l w k rights range drawn x → {l′ w′ : List ℕ} → Adds l w k (capOf x) (x .next) limit l′ w′
-      → Replies r b l′ w′ (deriveRun b l w k rights range drawn limit)
+      → (x : NewCap) → IsChild l w k rights range drawn lastDay x → {l′ w′ : List ℕ} → Adds l w k (capOf x) (x .next) limit l′ w′
+      → Replies r b l′ w′ (deriveRun b l w k rights range drawn limit lastDay)
   unfolding deriveRun first _when_
   goes-on e nz n q H x C A =
-      replies-done b l w (derived b l w k (childIn l w k rights range drawn) limit)
+      replies-done b l w (derived b l w k (childIn l w k rights range drawn lastDay) limit)
       (stop-is T e (ne-eqb (freeCap l) 0 nz)) (child-made n q H x C A)

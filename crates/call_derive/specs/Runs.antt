@@ -15,7 +15,7 @@ use Rattle.rules.specs.Call.{handsBack}
 use Rattle.rules.specs.Refusals.{_when_, first}
 use Rattle.rules.specs.Calls.{moved}
 use Rattle.layout.specs.Layout as Layout
-use Rattle.layout.specs.Rows.{masterOf, ownerOf, firstChildOf, rightsOf, moneyOf}
+use Rattle.layout.specs.Rows.{masterOf, ownerOf, firstChildOf, rightsOf, lastDayOf, moneyOf}
 use Rattle.layout.specs.View.{view}
 use Rattle.layout.specs.WellFormed.{Sized}
 use Rattle.call_steps.specs.Run.{Ran, settled, windowIn}
@@ -26,24 +26,26 @@ use Rattle.call_grow.specs.Made.{capOf, freeCap, newLinks, newWords}
 -- ---- the child
 
 -- the rules' `child` of the capability in slot k, by the cells
-unfoldable pub childIn : List ℕ → List ℕ → ℕ → ℕ → Window → Password → Cap
-childIn l w k rights range drawn = record {
+unfoldable pub childIn : List ℕ → List ℕ → ℕ → ℕ → Window → Password → ℕ → Cap
+childIn l w k rights range drawn lastDay = record {
   object = ownerOf l k;
   parent = k;
   password = drawn;
   window = moved range (windowIn w k);
   rights = both (rightsOf l k) rights;
+  lastDay = min lastDay (lastDayOf l k);
 }
 
-pub record ChildAsks (l w : List ℕ) (k rights : ℕ) : Type 0 where
+pub record ChildAsks (l w : List ℕ) (k rights lastDay : ℕ) : Type 0 where
   pub links : length l ≡ Layout.LINKS
   pub words : length w ≡ Layout.WORDS
   pub slot : CapSlot k
   pub rights-fit : rights ≤ Limit.rights
+  pub day-fits : lastDay ≤ Limit.day
 
 -- r is that child, to be put before the first one
-pub record IsChild (l w : List ℕ) (k rights : ℕ) (range : Window) (drawn : Password) (r : NewCap) : Type 0 where
-  pub cap : capOf r ≡ childIn l w k rights range drawn
+pub record IsChild (l w : List ℕ) (k rights : ℕ) (range : Window) (drawn : Password) (lastDay : ℕ) (r : NewCap) : Type 0 where
+  pub cap : capOf r ≡ childIn l w k rights range drawn lastDay
   pub next : r .next ≡ firstChildOf l k
 
 -- ---- the child linked
@@ -88,12 +90,12 @@ derived b l w k x limit = record {
   words = newWords w (freeCap l) x (moneyUnder w k limit);
 }
 
-unfoldable pub deriveRun : List ℕ → List ℕ → List ℕ → ℕ → ℕ → Window → Password → ℕ → Ran
-deriveRun b l w k rights range drawn limit =
-    settled (deriveStop b l w k (drawn .p1)) b l w (derived b l w k (childIn l w k rights range drawn) limit)
+unfoldable pub deriveRun : List ℕ → List ℕ → List ℕ → ℕ → ℕ → Window → Password → ℕ → ℕ → Ran
+deriveRun b l w k rights range drawn limit lastDay =
+    settled (deriveStop b l w k (drawn .p1)) b l w (derived b l w k (childIn l w k rights range drawn lastDay) limit)
 
 -- what the code asks
-pub record DeriveAsks (b l w : List ℕ) (k rights : ℕ) : Type 0 where
+pub record DeriveAsks (b l w : List ℕ) (k rights lastDay : ℕ) : Type 0 where
   pub sized : Sized b l w
   pub slot : CapSlot k
   -- the object that the capability is for lives
@@ -102,3 +104,4 @@ pub record DeriveAsks (b l w : List ℕ) (k rights : ℕ) : Type 0 where
   pub child-high : firstChildOf l k ≤ Limit.caps
   pub free-high : freeCap l ≤ Limit.caps
   pub rights-fit : rights ≤ Limit.rights
+  pub day-fits : lastDay ≤ Limit.day

@@ -1,5 +1,8 @@
 // "The child has .. the rights in both sets, and each end of the range moved to the nearest point of the parent's window."
-// 02, CR 1: "The child's moneyword is the smaller of the limit and the parent's moneyword."
+// 02, CR 1: "The child's moneyword is the smaller of the limit and the parent's moneyword." CR 9, of the last day given:
+// "the child has the smaller of it and the parent's".
+ghost use mathlib.Core.Path.{_≡_};
+ghost use Prim.Native.Nat.{min};
 ghost use Rattle.values.specs.Words.{passwordOf, windowOf};
 ghost use Rattle.call_grow.specs.Made.{capOf};
 ghost use Rattle.call_derive.specs.Runs.{ChildAsks, IsChild, AddAsks, Adds};
@@ -7,6 +10,7 @@ use call_grow::cap::NewCap;
 use call_grow::cap::new_cap;
 use call_steps::target::window_at;
 use layout::FIRST_CHILD;
+use layout::LAST_DAY;
 use layout::MONEY;
 use layout::OWNER;
 use layout::PREV_CAP;
@@ -16,8 +20,15 @@ use values::moneyword::Moneyword;
 use values::rights::Rights;
 use values::window::Window;
 
-// The child of the capability in slot k with these rights, this range and this password; its next sibling is to be the
-// first child.
+// The smaller of two days.
+fn earlier(day: u16, other: u16) -> u16
+    ensures { λ r. ⌜ r ≡ min day other ⌝ }
+{
+    if day < other { day } else { other }
+}
+
+// The child of the capability in slot k with these rights, this range, this password and this last day; its next sibling is
+// to be the first child.
 pub(crate) fn child_of(
     links: &[u16],
     words: &[u32],
@@ -25,13 +36,17 @@ pub(crate) fn child_of(
     rights: u32,
     range: Window,
     drawn: [u32; 2],
+    last_day: u32,
 ) -> NewCap
-    requires { ⌜ ChildAsks (now links) (now words) k rights ⌝ }
-    ensures { λ r. ⌜ IsChild (now (links .entry)) (now (words .entry)) k rights (windowOf range) (passwordOf drawn) r ⌝ }
+    requires { ⌜ ChildAsks (now links) (now words) k rights «last_day» ⌝ }
+    ensures { λ r. ⌜ IsChild (now (links .entry)) (now (words .entry)) k rights (windowOf range) (passwordOf drawn)
+        «last_day» r ⌝ }
 {
     let window = window_at(words, k);
     let own = Rights(links[RIGHTS + k]);
     let asked = Rights(rights as u16);
+    let given = last_day as u16;
+    let parents = links[LAST_DAY + k];
     NewCap {
         object: links[OWNER + k],
         parent: k as u16,
@@ -39,6 +54,7 @@ pub(crate) fn child_of(
         rights: own.both(asked),
         password: drawn,
         window: window.moved(range),
+        last_day: earlier(given, parents),
     }
 }
 

@@ -27,11 +27,12 @@ pub fn derive_cap(
     range: Window,
     drawn: [u32; 2],
     limit: u32,
+    last_day: u32,
 ) -> Reply
-    requires { ⌜ DeriveAsks (now bytes) (now links) (now words) k rights ⌝ }
+    requires { ⌜ DeriveAsks (now bytes) (now links) (now words) k rights «last_day» ⌝ }
     ensures { λ r. ⌜ Replies r (now (bytes .entry)) (now (links .exit)) (now (words .exit))
         (deriveRun (now (bytes .entry)) (now (links .entry)) (now (words .entry)) k rights (windowOf range)
-        (passwordOf drawn) limit) ⌝ }
+        (passwordOf drawn) limit «last_day») ⌝ }
 {
     let o = slot(links[OWNER + k]);
     if p1_taken(links, words, o, drawn[0]) {
@@ -41,7 +42,7 @@ pub fn derive_cap(
         return Reply::refused(NO_SPACE);
     }
     let name = name_at(bytes, links, o);
-    let x = child_of(links, words, k, rights, range, drawn);
+    let x = child_of(links, words, k, rights, range, drawn, last_day);
     add_child(links, words, k, x, limit);
     Reply::hands_back(name, drawn)
 }

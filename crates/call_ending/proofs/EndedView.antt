@@ -25,7 +25,7 @@ use Rattle.layout.proofs.Puts.{Put, put, head-puts, field-kept}
 use Rattle.layout.proofs.Linking.{chain-low}
 use Rattle.layout.proofs.Shown.{process-no, object-none, bytes-none, lock-none, cash-none, marks-none, box-none}
 use Rattle.layout.proofs.Shown.{cap-none, money-none}
-use Rattle.layout.proofs.Frame.{state-is, object-same-at, bytes-same-at, lock-same-at, cash-same-at, marks-same-at}
+use Rattle.layout.proofs.Frame.{state-is, day-same, object-same-at, bytes-same-at, lock-same-at, cash-same-at, marks-same-at}
 use Rattle.layout.proofs.Frame.{box-same-at, cap-same-at, money-same-at}
 use Rattle.call_blocks.proofs.Hops.{hop-in}
 use Rattle.call_ending.specs.Links.{lastBlock, endedLinks}
@@ -139,7 +139,8 @@ module _ {b l w : List ℕ} {o m : ℕ} (L : Last b l w o m) (l′ w′ : List �
   caps-are : s′ .cap ≡ at (s .cap) m noCap
   caps-are = at-is (s .cap) (s′ .cap) m noCap (cap-none b l′ w′ m (owner-gone L l′ R))
       (λ j ne. cap-same-at b l w b l′ w′ j (owners L l′ R j ne) (λ k. R .parent k j) (λ k. H .p1 k j)
-      (λ k. H .p2 k j) (λ k. H .start k j) (λ k. H .end k j) (λ k. R .rights k j))
+      (λ k. H .p2 k j) (λ k. H .start k j) (λ k. H .end k j) (λ k. R .rights k j)
+      (λ k. R .last-day k j))
 
   money-is : s′ .money ≡ at (s .money) m 0
   money-is = at-is (s .money) (s′ .money) m 0 (money-none b l′ w′ m (owner-gone L l′ R))
@@ -152,7 +153,7 @@ module _ {b l w : List ℕ} {o m : ℕ} (L : Last b l w o m) (l′ w′ : List �
   shows : s′ ≡ toHouse (endObject (endWhere s (λ i. eqb i m)) o) n
   unfolding toHouse endObject newObject endWhere withHouse withCap withMoney noObject noMarks at
   shows = state-is s′ (toHouse (endObject (endWhere s (λ i. eqb i m)) o) n)
-      house-is objects-are bytes-are locks-are cash-is marks-are boxes-are caps-are money-is
+      house-is (day-same b l w b l′ w′ (R .day)) objects-are bytes-are locks-are cash-is marks-are boxes-are caps-are money-is
 
 -- ---- the whole
 

@@ -8,7 +8,7 @@ use lib.ListN.{length, getD}
 use Rattle.rules.specs.Slots.{at, find}
 use Rattle.layout.specs.Layout as Layout
 use Rattle.layout.specs.Rows.{masterOf, serialOf, sizeOf, firstBlockOf, nextObjectOf, nextBlockOf}
-use Rattle.layout.specs.Rows.{ownerOf, parentOf, firstChildOf, nextCapOf, prevCapOf, rightsOf}
+use Rattle.layout.specs.Rows.{ownerOf, parentOf, firstChildOf, nextCapOf, prevCapOf, rightsOf, lastDayOf}
 use Rattle.layout.proofs.Puts.{Put, put, puts, length-puts, Within, field-puts, field-puts-at, head-puts, field-kept}
 use Rattle.call_steps.specs.Tests.{ObjectSlot, CapSlot}
 use Rattle.call_prune.specs.Links.{freedCap}
@@ -33,6 +33,8 @@ pub record EndedRows (l l′ : List ℕ) (o m : ℕ) : Type 0 where
   pub child : firstChildOf l′ ≡ firstChildOf l
   pub prev : prevCapOf l′ ≡ prevCapOf l
   pub rights : rightsOf l′ ≡ rightsOf l
+  pub last-day : lastDayOf l′ ≡ lastDayOf l
+  pub day : getD l′ Layout.DAY 0 ≡ getD l Layout.DAY 0
   pub cap : nextCapOf l′ ≡ at (nextCapOf l) m (getD l Layout.«FREE_CAPS» 0)
   pub object : (k : ℕ) → 1 ≤ k → nextObjectOf l′ k
       ≡ at (at (nextObjectOf l) (before l o) (nextObjectOf l o)) o (getD l Layout.«FREE_OBJECTS» 0) k
@@ -116,6 +118,8 @@ module _ (l : List ℕ) (long : length l ≡ Layout.LINKS) (o m : ℕ) (os : Obj
     child = field-kept 512 Layout.«FIRST_CHILD» l ws refl inside;
     prev = field-kept 512 Layout.«PREV_CAP» l ws refl inside;
     rights = field-kept 512 Layout.RIGHTS l ws refl inside;
+    last-day = field-kept 512 Layout.«LAST_DAY» l ws refl inside;
+    day = head-puts Layout.DAY l (omega arith) ws refl inside;
     cap = field-puts 512 Layout.«NEXT_CAP» l (omega arith) ws refl inside (omega (arith, ms .low));
     object = field-puts-at 64 Layout.«NEXT_OBJECT» l (omega arith) ws refl inside;
     block = field-puts-at 512 Layout.«NEXT_BLOCK» l (omega arith) ws refl inside;

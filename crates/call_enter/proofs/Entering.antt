@@ -23,7 +23,7 @@ use Rattle.call_steps.proofs.Entering.{early-range, early-running, early-poor, 
 use Rattle.call_steps.proofs.Charging.{poor-is, fee-plain}
 use Rattle.call_enter.specs.Entry.{Entry, refused, shownSlot, shown, stoppedBytes, entered, entry}
 
--- ---- 5 and 6
+-- ---- 5, 19 and 6
 
 module _ (s : State) (me : ℕ) (x : Capability) (o : Op) where
   pub slot-some : presents o ≡ true → shownSlot s me x o ≡ presented s me x

@@ -11,7 +11,7 @@ use Rattle.rules.specs.Store.{State, capLives, objectNamed}
 use Rattle.rules.specs.Valid.{Valid}
 use Rattle.rules.specs.Rights.{Op, makeObj, read, write, capInfo, deriveCap, deleteCap, renameObj, withdraw}
 use Rattle.rules.specs.Rights.{deposit, suspend, resume, applyLock, send, receive, wait, revive, unknown}
-use Rattle.rules.specs.Rights.{op, feeOf, presents}
+use Rattle.rules.specs.Rights.{op, feeOf, presents, dayNumber}
 use Rattle.rules.specs.Call.{Call, Outcome, Choice, code}
 use Rattle.rules.specs.Code as Code
 use Rattle.rules.specs.Password.{presented}
@@ -20,11 +20,11 @@ use Rattle.rules.specs.Update.{withHouse, withCash, withCap, withMoney}
 use Rattle.rules.specs.Changes.{spend, toHouse, endWhere}
 use Rattle.rules.specs.Calls.{makeObjRefuses, makeObjDoes, madeObject, madeMaster, receiveRefuses, receiveDoes, waitDoes}
 use Rattle.rules.specs.Calls.{refuses, does, emptied}
-use Rattle.rules.specs.Rule.{stopped, paid, late, onPaid, rule, isDone}
+use Rattle.rules.specs.Rule.{stopped, paid, late, onPaid, processRule, rule, isDone}
 use Rattle.rules.specs.Demand.{Words, FreeObject, FreeCap, Open, Allowed}
 use Rattle.rules.specs.Theorems.{ValidKept}
 use Rattle.rules.proofs.Tests.{by-bool, pick-yes, pick-not}
-use Rattle.rules.proofs.Outcomes.{rule-early}
+use Rattle.rules.proofs.Outcomes.{rule-process, rule-early}
 use Rattle.rules.proofs.Ready.{presenting-none, late-shown, late-own}
 use Rattle.rules.proofs.Theorems.{valid-kept}
 use Rattle.layout.specs.View.{view}
@@ -99,7 +99,7 @@ module _ (S : List ℕ → Type 0) {b l w : List ℕ} (c : Call) (me : ℕ) (P :
       (λ p. ap (λ i. own s c me i h o) (sym (slot-some s me (c .presented) o p)))
       (λ p. own-any s c me found k h o p)
 
-  -- 5 or 6
+  -- 5, 19 or 6
   met-shown : first (presenting s k o) ≢ 0 → MeetsPaid S s c found (over (first (presenting s k o)) b l w)
   unfolding onPaid over code
   met-shown nz =
@@ -147,6 +147,27 @@ pub record MeetsRule (S : List ℕ → Type 0) (s : State) (c : Call) (x : Ran) 
   pub links : S (x .links)
   pub valid : Valid (view (x .bytes) (x .links) (x .words))
 
+-- well formed by the rules' own theorem
+pub met-rule : (S : List ℕ → Type 0) {s : State} {c : Call} → Valid s → Words c → (x : Ran) (h : Choice)
+    → (x .answer .code ≡ 0 → Open s c h) → rule s c h ≡ outcome x
+    → Sized (x .bytes) (x .links) (x .words) → Cells (x .bytes) (x .links) → S (x .links)
+    → MeetsRule S s c x
+unfolding isDone ValidKept
+met-rule S {s} {c} v words x h free e z cells links =
+    let allowed : Allowed s c h = record {
+      words = words;
+      choice = λ d. free (ap (λ (r : Outcome). r .answer .code) (sym e) ∙ eqb-true _ 0 d);
+    } in
+    record {
+      choice = h;
+      allowed = allowed;
+      rules = e;
+      sized = z;
+      cells = cells;
+      links = links;
+      valid = subst Valid (ap (λ (r : Outcome). r .after) e) (valid-kept s c h v allowed);
+    }
+
 -- the fee changes no slot that is asked for
 open-kept : (s : State) (c : Call) (h : Choice) → Open (paid s c) c h → Open s c h
 unfolding paid toHouse spend withCash withHouse FreeObject FreeCap capLives emptied endWhere withMoney withCap
@@ -159,35 +180,15 @@ OwnMeets S part l c = (b w : List ℕ) (me k : ℕ) → Begins b l w c me k
     → MeetsWith S (view b l w) c me k (op (c .number)) (part b l w c me k (op (c .number)))
 
 module _ (S : List ℕ → Type 0) (part : OwnPart) {b l w : List ℕ} (P : Plain b l w) (kept : S l) {c : Call} (words : Words c)
-    (met : OwnMeets S part l c) where
+    (process : c .number ≢ dayNumber) (met : OwnMeets S part l c) where
   abbrev entry : State
   entry = view b l w
-
-  -- well formed by the rules' own theorem
-  met-rule : (x : Ran) (h : Choice) → (x .answer .code ≡ 0 → Open entry c h) → rule entry c h ≡ outcome x
-      → Sized (x .bytes) (x .links) (x .words) → Cells (x .bytes) (x .links) → S (x .links)
-      → MeetsRule S entry c x
-  unfolding isDone ValidKept
-  met-rule x h free e z cells links =
-      let allowed : Allowed entry c h = record {
-        words = words;
-        choice = λ d. free (ap (λ (r : Outcome). r .answer .code) (sym e) ∙ eqb-true _ 0 d);
-      } in
-      record {
-        choice = h;
-        allowed = allowed;
-        rules = e;
-        sized = z;
-        cells = cells;
-        links = links;
-        valid = subst Valid (ap (λ (r : Outcome). r .after) e) (valid-kept entry c h (P .valid) allowed);
-      }
 
   met-early : (b′ : List ℕ) → early entry c ≢ 0 → view b′ l w ≡ stopped entry c (early entry c) → Plain b′ l w
       → MeetsRule S entry c (over (early entry c) b′ l w)
   unfolding over code
-  met-early b′ nz e F = met-rule (over (early entry c) b′ l w) none (λ z. absurd (nz z))
-      (rule-early entry c none nz ∙ ap (λ t. record { answer = code (early entry c); after = t }) (sym e))
+  met-early b′ nz e F = met-rule S (P .valid) words (over (early entry c) b′ l w) none (λ z. absurd (nz z))
+      (rule-early entry c none process nz ∙ ap (λ t. record { answer = code (early entry c); after = t }) (sym e))
       (F .sized) (F .cells) kept
 
   -- 2 and 3 change nothing
@@ -216,11 +217,11 @@ module _ (S : List ℕ → Type 0) (part : OwnPart) {b l w : List ℕ} (P : Plai
     met-paid : {x : Ran}
         → MeetsPaid S (view b l paidW) c (presented (view b l paidW) caller-slot (c .presented)) x
         → MeetsRule S entry c x
-    unfolding rule
+    unfolding processRule
     met-paid {x} m =
         let q = subst (λ t. MeetsPaid S t c (presented t caller-slot (c .presented)) x) (paid-view b l w P c e) m in
-        met-rule x (q .choice) (λ z. open-kept entry c (q .choice) (q .free z))
-        (pick-yes (eqb (early entry c) 0) _ _ (eq-eqb (early entry c) 0 e) ∙ q .rules)
+        met-rule S (P .valid) words x (q .choice) (λ z. open-kept entry c (q .choice) (q .free z))
+        (rule-process entry c (q .choice) process ∙ pick-yes (eqb (early entry c) 0) _ _ (eq-eqb (early entry c) 0 e) ∙ q .rules)
         (q .sized) (q .cells) (q .links)
 
     met-pays : first (presenting (view b l paidW) shown-slot (op (c .number))) ≢ 0

@@ -1,4 +1,4 @@
--- The whole call by its outcomes, for any own part: refused by 2 or 3, by 4, by 5 or 6, and the own part.
+-- The whole call by its outcomes, for any own part: refused by 2 or 3, by 4, by 5, 19 or 6, and the own part.
 use Prim.Native.Nat.{ℕ}
 use mathlib.Core.Path.{_≡_, refl, sym, ap, _∙_, subst}
 use mathlib.Core.Logic.{_≢_}

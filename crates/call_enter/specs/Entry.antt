@@ -30,7 +30,7 @@ refused n b w = record { code = n; me = 0; slot = 0; bytes = b; words = w }
 unfoldable pub shownSlot : State → ℕ → Capability → Op → ℕ
 shownSlot s me x o = elim (presents o) [ true ↦ presented s me x | false ↦ 0 ]
 
--- after the fee: 5 and 6 where a capability is presented
+-- after the fee: 5, 19 and 6 where a capability is presented
 unfoldable pub shown : List ℕ → List ℕ → List ℕ → ℕ → Capability → Op → Entry
 shown b l w me x o = record {
   code = first (presenting (view b l w) (shownSlot (view b l w) me x o) o);

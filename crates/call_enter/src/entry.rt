@@ -1,4 +1,4 @@
-// Refusals 2, 3 and 4, the fee, then 5 and 6.
+// Refusals 2, 3 and 4, the fee, then 5, 19 and 6.
 ghost use mathlib.Core.Path.{_≡_};
 ghost use mathlib.Core.List.{List};
 ghost use Prim.Native.Nat.{ℕ};
@@ -31,7 +31,7 @@ pub struct Entered {
     pub slot: usize,
 }
 
-// 5 and 6, where the call with this number presents a capability; slot me is the caller's.
+// 5, 19 and 6, where the call with this number presents a capability; slot me is the caller's.
 fn show(
     bytes: &[u8],
     links: &[u16],

@@ -10,7 +10,7 @@ use Rattle.rules.specs.Store.{Cap}
 use Rattle.rules.proofs.Slots.{at-here, at-else}
 use Rattle.layout.specs.Layout as Layout
 use Rattle.layout.specs.Rows.{masterOf, serialOf, sizeOf, firstBlockOf, nextObjectOf, nextBlockOf}
-use Rattle.layout.specs.Rows.{ownerOf, parentOf, firstChildOf, nextCapOf, prevCapOf, rightsOf}
+use Rattle.layout.specs.Rows.{ownerOf, parentOf, firstChildOf, nextCapOf, prevCapOf, rightsOf, lastDayOf}
 use Rattle.layout.specs.Rows.{cashOf, lock1Of, lock2Of, sumOf, p1Of, p2Of, moneyOf, startOf, endOf}
 use Rattle.layout.proofs.Puts.{Put, put, length-puts, field-puts, field-kept, head-puts}
 use Rattle.call_grow.specs.Made.{newLinks, newWords}
@@ -40,6 +40,7 @@ pub record MadeLinks (l l′ : List ℕ) (i : ℕ) (x : Cap) (next : ℕ) : Type
   pub objects-head : getD l′ Layout.OBJECTS 0 ≡ getD l Layout.OBJECTS 0
   pub free-objects-head : getD l′ Layout.«FREE_OBJECTS» 0 ≡ getD l Layout.«FREE_OBJECTS» 0
   pub free-blocks-head : getD l′ Layout.«FREE_BLOCKS» 0 ≡ getD l Layout.«FREE_BLOCKS» 0
+  pub day-same : getD l′ Layout.DAY 0 ≡ getD l Layout.DAY 0
   pub free-caps-head : getD l′ Layout.«FREE_CAPS» 0 ≡ nextCapOf l i
   pub owner-is : OneSlot (ownerOf l) (ownerOf l′) i (x .object)
   pub parent-is : OneSlot (parentOf l) (parentOf l′) i (x .parent)
@@ -47,11 +48,13 @@ pub record MadeLinks (l l′ : List ℕ) (i : ℕ) (x : Cap) (next : ℕ) : Type
   pub next-cap-is : OneSlot (nextCapOf l) (nextCapOf l′) i next
   pub prev-cap-is : OneSlot (prevCapOf l) (prevCapOf l′) i 0
   pub rights-is : OneSlot (rightsOf l) (rightsOf l′) i (x .rights)
+  pub last-day-is : OneSlot (lastDayOf l) (lastDayOf l′) i (x .lastDay)
 
 -- the stores, the last one first
 abbrev linkPuts : ℕ → ℕ → Cap → ℕ → List Put
 linkPuts after i x next =
-    put 512 Layout.RIGHTS i (x .rights)
+    put 512 Layout.«LAST_DAY» i (x .lastDay)
+    ∷ put 512 Layout.RIGHTS i (x .rights)
     ∷ put 512 Layout.«PREV_CAP» i 0
     ∷ put 512 Layout.«NEXT_CAP» i next
     ∷ put 512 Layout.«FIRST_CHILD» i 0
@@ -77,6 +80,7 @@ module _ (l : List ℕ) (i : ℕ) (x : Cap) (next : ℕ) (long : length l ≡ La
     objects-head = head-puts Layout.OBJECTS l (omega arith) ws refl (omega arith);
     free-objects-head = head-puts Layout.«FREE_OBJECTS» l (omega arith) ws refl (omega arith);
     free-blocks-head = head-puts Layout.«FREE_BLOCKS» l (omega arith) ws refl (omega arith);
+    day-same = head-puts Layout.DAY l (omega arith) ws refl (omega arith);
     free-caps-head = head-puts Layout.«FREE_CAPS» l (omega arith) ws refl (omega arith);
     owner-is = one-slot (field-puts 512 Layout.OWNER l (omega arith) ws refl (omega arith) (omega arith));
     parent-is = one-slot (field-puts 512 Layout.PARENT l (omega arith) ws refl (omega arith) (omega arith));
@@ -84,6 +88,7 @@ module _ (l : List ℕ) (i : ℕ) (x : Cap) (next : ℕ) (long : length l ≡ La
     next-cap-is = one-slot (field-puts 512 Layout.«NEXT_CAP» l (omega arith) ws refl (omega arith) (omega arith));
     prev-cap-is = one-slot (field-puts 512 Layout.«PREV_CAP» l (omega arith) ws refl (omega arith) (omega arith));
     rights-is = one-slot (field-puts 512 Layout.RIGHTS l (omega arith) ws refl (omega arith) (omega arith));
+    last-day-is = one-slot (field-puts 512 Layout.«LAST_DAY» l (omega arith) ws refl (omega arith) (omega arith));
   }
 
 -- ---- the words

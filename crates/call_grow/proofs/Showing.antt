@@ -13,7 +13,7 @@ use Rattle.layout.specs.Rows.{ownerOf}
 use Rattle.layout.specs.View.{view}
 use Rattle.layout.proofs.Field.{at-is}
 use Rattle.layout.proofs.Shown.{cap-here, money-here}
-use Rattle.layout.proofs.Frame.{state-is, house-same, object-same, bytes-same, lock-same, cash-same, marks-same}
+use Rattle.layout.proofs.Frame.{state-is, house-same, day-same, object-same, bytes-same, lock-same, cash-same, marks-same}
 use Rattle.layout.proofs.Frame.{box-same, cap-same-at, money-same-at}
 use Rattle.call_grow.specs.Made.{newLinks, newWords}
 use Rattle.call_grow.proofs.Making.{MadeLinks, made-links, MadeWords, made-words}
@@ -34,9 +34,11 @@ module _ (b : List ℕ) {l w l′ w′ : List ℕ} {i : ℕ} {x : Cap} {next mon
         W .start-is .here,
         W .end-is .here,
         L .rights-is .here,
+        L .last-day-is .here,
       ))
       (λ j ne. cap-same-at b l w b l′ w′ j (L .owner-is .else j ne) (L .parent-is .else j ne) (W .p1-is .else j ne)
-      (W .p2-is .else j ne) (W .start-is .else j ne) (W .end-is .else j ne) (L .rights-is .else j ne))
+      (W .p2-is .else j ne) (W .start-is .else j ne) (W .end-is .else j ne) (L .rights-is .else j ne)
+      (L .last-day-is .else j ne))
 
   money-made : view b l′ w′ .money ≡ at (view b l w .money) i moneyword
   money-made = at-is (view b l w .money) (view b l′ w′ .money) i moneyword
@@ -47,6 +49,7 @@ module _ (b : List ℕ) {l w l′ w′ : List ℕ} {i : ℕ} {x : Cap} {next mon
   unfolding newCap withCap withMoney
   made-shows = state-is (view b l′ w′) (newCap (view b l w) i x moneyword)
       (house-same b l w b l′ w′ (W .house-same))
+      (day-same b l w b l′ w′ (L .day-same))
       (object-same b l w b l′ w′ (L .master-same) refl (L .serial-same) (L .size-same) refl)
       (bytes-same b l w b l′ w′ (L .master-same) (L .size-same) (L .first-block-same) (L .next-block-same) refl)
       (lock-same b l w b l′ w′ (L .master-same) refl (W .lock1-same) (W .lock2-same))

@@ -18,6 +18,7 @@ capOf x = record {
   password = passwordOf (x .password);
   window = windowOf (x .window);
   rights = x .rights .0;
+  lastDay = x .«last_day»;
 }
 
 -- the first free record, 0 if there is none
@@ -31,7 +32,8 @@ newLinks l i x next =
     let popped : List ℕ = set l Layout.«FREE_CAPS» (nextCapOf l i) in
     let above : List ℕ = set (set popped (Layout.OWNER + i) (x .object)) (Layout.PARENT + i) (x .parent) in
     let beside : List ℕ = set (set above (Layout.«FIRST_CHILD» + i) 0) (Layout.«NEXT_CAP» + i) next in
-    set (set beside (Layout.«PREV_CAP» + i) 0) (Layout.RIGHTS + i) (x .rights)
+    let alone : List ℕ = set beside (Layout.«PREV_CAP» + i) 0 in
+    set (set alone (Layout.RIGHTS + i) (x .rights)) (Layout.«LAST_DAY» + i) (x .lastDay)
 
 -- the words with capability x and its moneyword in slot i
 unfoldable pub newWords : List ℕ → ℕ → Cap → ℕ → List ℕ

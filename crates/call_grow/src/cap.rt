@@ -7,6 +7,7 @@ ghost use Rattle.call_grow.specs.Made.{capOf, newLinks, newWords, MakeAs
 use layout::END;
 use layout::FIRST_CHILD;
 use layout::FREE_CAPS;
+use layout::LAST_DAY;
 use layout::MONEY;
 use layout::NEXT_CAP;
 use layout::OWNER;
@@ -29,6 +30,8 @@ pub struct NewCap {
     pub rights: Rights,
     pub password: [u32; 2],
     pub window: Window,
+    // 02, CR 9
+    pub last_day: u16,
 }
 
 // The links of the record in slot i, the first free one.
@@ -43,6 +46,7 @@ fn write_links(links: &mut [u16], i: usize, x: NewCap)
     links[NEXT_CAP + i] = x.next;
     links[PREV_CAP + i] = 0;
     links[RIGHTS + i] = x.rights.0;
+    links[LAST_DAY + i] = x.last_day;
 }
 
 // Its words.

@@ -18,7 +18,7 @@ use Rattle.layout.specs.View.{isProcess, messages, view}
 use Rattle.layout.specs.WellFormed.{Cells}
 use Rattle.layout.proofs.Field.{at-is, field-high}
 use Rattle.layout.proofs.Shown.{process-lives, box-here, box-none}
-use Rattle.layout.proofs.Frame.{state-is, house-same, object-same, bytes-same, lock-same, cap-same, money-same}
+use Rattle.layout.proofs.Frame.{state-is, house-same, day-same, object-same, bytes-same, lock-same, cap-same, money-same}
 use Rattle.call_mail.specs.Runs.{messageSlot}
 use Rattle.call_mail.proofs.Boxes.{messageAt, messages-moved}
 
@@ -80,13 +80,14 @@ module _ {b w b′ w′ : List ℕ} {o : ℕ} (X : Boxed b w b′ w′ o) (l : L
   boxed-view c m x e d f =
       state-is (view b′ l w′) (withBox (withMarks (withCash (view b l w) c) m) x)
       (house-same b l w b′ l w′ (X .house))
+      (day-same b l w b′ l w′ refl)
       (object-same b l w b′ l w′ refl (X .volume) refl refl (X .flag))
       (bytes-same b l w b′ l w′ refl refl refl refl (X .bytes))
       (lock-same b l w b′ l w′ refl (X .flag) (X .lock1) (X .lock2))
       e
       d
       f
-      (cap-same b l w b′ l w′ refl refl (X .p1) (X .p2) (X .start) (X .end) refl)
+      (cap-same b l w b′ l w′ refl refl (X .p1) (X .p2) (X .start) (X .end) refl refl)
       (money-same b l w b′ l w′ refl (X .money))
 
   pub boxed-cells : ((j : ℕ) → isProcess (masterOf l) (flagOf b) j ≡ true → waitingOf b′ j ≤ 1) → Cells b′ l

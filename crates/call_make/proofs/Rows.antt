@@ -9,7 +9,7 @@ use Rattle.rules.specs.Slots.{at}
 use Rattle.layout.specs.Layout as Layout
 use Rattle.layout.specs.Rows.{field, region, volumeOf, flagOf, suspendedOf, waitingOf, terminatedOf, countOf}
 use Rattle.layout.specs.Rows.{masterOf, serialOf, sizeOf, firstBlockOf, nextObjectOf, nextBlockOf}
-use Rattle.layout.specs.Rows.{ownerOf, parentOf, firstChildOf, nextCapOf, prevCapOf, rightsOf}
+use Rattle.layout.specs.Rows.{ownerOf, parentOf, firstChildOf, nextCapOf, prevCapOf, rightsOf, lastDayOf}
 use Rattle.layout.specs.Rows.{cashOf, lock1Of, lock2Of}
 use Rattle.layout.proofs.Puts.{Put, put, puts, Within, beside}
 use Rattle.layout.proofs.Puts.{length-puts, field-puts, field-kept, head-puts, region-kept}
@@ -132,6 +132,8 @@ pub record Recorded (l l₁ l′ : List ℕ) (o serial size i : ℕ) : Type 0 wh
   pub next-cap-same : nextCapOf l′ ≡ nextCapOf l
   pub prev-cap-same : prevCapOf l′ ≡ prevCapOf l
   pub rights-same : rightsOf l′ ≡ rightsOf l
+  pub last-day-same : lastDayOf l′ ≡ lastDayOf l
+  pub day-same : getD l′ Layout.DAY 0 ≡ getD l Layout.DAY 0
   pub objects-head : getD l′ Layout.OBJECTS 0 ≡ o
   pub free-objects-head : freeObject l′ ≡ nextObjectOf l o
   pub free-caps-head : freeCap l′ ≡ freeCap l
@@ -206,6 +208,8 @@ module _ (l : List ℕ) (o serial size i : ℕ) (S : ObjectSlot o) (n : ℕ) (E 
     next-cap-same = kept 512 Layout.«NEXT_CAP» refl refl refl;
     prev-cap-same = kept 512 Layout.«PREV_CAP» refl refl refl;
     rights-same = kept 512 Layout.RIGHTS refl refl refl;
+    last-day-same = kept 512 Layout.«LAST_DAY» refl refl refl;
+    day-same = head-kept Layout.DAY l₁ linkStores refl links-within ∙ was-head Layout.DAY (omega arith) refl refl;
     objects-head = head-puts Layout.OBJECTS l₁ (omega (arith, long₁)) linkStores refl links-within;
     free-objects-head = head-puts Layout.«FREE_OBJECTS» l₁ (omega (arith, long₁)) linkStores refl links-within
         ∙ (λ k. was-row 64 Layout.«NEXT_OBJECT» refl refl k o);

@@ -23,7 +23,7 @@ use Rattle.layout.proofs.Linking.{chain-high}
 use Rattle.layout.proofs.Shown.{object-here, bytes-here, bytes-none, process-is}
 use Rattle.layout.proofs.Shown.{lock-here, lock-none, cash-here, cash-none}
 use Rattle.layout.proofs.Shown.{marks-here, marks-none, box-here, box-none}
-use Rattle.layout.proofs.Frame.{state-is, house-same, object-same-at, bytes-same-at, lock-same-at, cash-same-at}
+use Rattle.layout.proofs.Frame.{state-is, house-same, day-same, object-same-at, bytes-same-at, lock-same-at, cash-same-at}
 use Rattle.layout.proofs.Frame.{marks-same-at, box-same-at, cap-same, money-same}
 use Rattle.call_steps.specs.Tests.{ObjectSlot}
 use Rattle.call_blocks.specs.Taking.{freeHead, clearedBytes, takenLinks, Enough}
@@ -241,6 +241,7 @@ module _ (b l w : List ℕ) (Z : Sized b l w) (B : Blocks l) (o : ℕ) (S : Obje
     unfolding newObject
     object-shows = state-is (view b′ l′ w′) (newObject (view b l w) o object)
         (house-same b l w b′ l′ w′ (words-head w o S Layout.HOUSE refl))
+        (day-same b l w b′ l′ w′ (D .day-same))
         objects
         (at-is (view b l w .bytes) (view b′ l′ w′ .bytes) o (replicate size 0) bytes-made bytes-else)
         locks
@@ -249,7 +250,7 @@ module _ (b l w : List ℕ) (Z : Sized b l w) (B : Blocks l) (o : ℕ) (S : Obje
         boxes
         (cap-same b l w b′ l′ w′ (D .owner-same) (D .parent-same) (words-row w o S 512 Layout.P1 refl)
         (words-row w o S 512 Layout.P2 refl) (words-row w o S 512 Layout.START refl)
-        (words-row w o S 512 Layout.END refl) (D .rights-same))
+        (words-row w o S 512 Layout.END refl) (D .rights-same) (D .last-day-same))
         (money-same b l w b′ l′ w′ (D .owner-same) (words-row w o S 512 Layout.MONEY refl))
 
     pub object-made-is : ObjectMade b l w b′ l′ w′ o object

@@ -61,7 +61,7 @@ recordWords w o = set (set (set w (Layout.CASH + o) 0) (Layout.LOCK1 + o) 0) (La
 
 -- ---- with its n blocks, and its master
 
--- the rules' `madeMaster`: the whole window and the rights given
+-- the rules' `madeMaster`: the whole window, the rights given and the last day 65,535
 unfoldable pub masterCap : ℕ → ℕ → ℕ → Password → Cap
 masterCap o size rights password = record {
   object = o;
@@ -69,6 +69,7 @@ masterCap o size rights password = record {
   password = password;
   window = record { start = 0; end = size };
   rights = rights;
+  lastDay = Limit.day;
 }
 
 unfoldable pub madeBytes : List ℕ → List ℕ → ℕ → ℕ → ℕ → ℕ → List ℕ

@@ -1,5 +1,5 @@
 // What a new object is made of: its blocks, its record and its master. "Its master has the whole window, moneyword 0 and
-// the rights given."
+// the rights given." 02, CR 9, of last days: "A master's is 65,535."
 ghost use Rattle.values.specs.Words.{passwordOf};
 ghost use Rattle.call_steps.specs.Request.{nameOf};
 ghost use Rattle.call_make.specs.Runs.{MasterAsks, IsNewMaster, HoldAsks, TakesBlocks, RecordAsks, Records, PlaceAsks};
@@ -15,9 +15,12 @@ use call_steps::request::Name;
 use call_steps::request::Request;
 use layout::FREE_CAPS;
 use values::blocks::blocks_of;
+use values::limit::MAX_DAY;
 use values::moneyword::Moneyword;
 use values::rights::Rights;
 use values::window::Window;
+
+const MASTERS_LAST_DAY: u16 = MAX_DAY as u16;
 
 // The master of the object in slot o.
 fn master_of(o: usize, size: u32, rights: u32, drawn: [u32; 2]) -> NewCap
@@ -34,6 +37,7 @@ fn master_of(o: usize, size: u32, rights: u32, drawn: [u32; 2]) -> NewCap
             start: 0,
             end: size,
         },
+        last_day: MASTERS_LAST_DAY,
     }
 }
 

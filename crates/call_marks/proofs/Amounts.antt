@@ -15,7 +15,7 @@ use Rattle.layout.specs.Rows.{cashOf, lock1Of, lock2Of, sumOf, p1Of, p2Of, mone
 use Rattle.layout.specs.View.{view}
 use Rattle.layout.proofs.Field.{at-is, field-other, field-same}
 use Rattle.layout.proofs.Shown.{lock-here, cash-here}
-use Rattle.layout.proofs.Frame.{state-is, house-same, object-same, bytes-same, lock-same, lock-same-at, cash-same}
+use Rattle.layout.proofs.Frame.{state-is, house-same, day-same, object-same, bytes-same, lock-same, lock-same-at, cash-same}
 use Rattle.layout.proofs.Frame.{cash-same-at, marks-same, box-same, cap-same, money-same}
 use Rattle.call_steps.specs.Run.{Process}
 use Rattle.call_steps.proofs.Process.{is-process}
@@ -52,13 +52,14 @@ unfolding withLock withCash
 all-but-purses b l {w} {w′} A f g e d =
     state-is (view b l w′) (withLock (withCash (view b l w) f) g)
     (house-same b l w b l w′ (A .house))
+    (day-same b l w b l w′ refl)
     (object-same b l w b l w′ refl refl refl refl refl)
     (bytes-same b l w b l w′ refl refl refl refl refl)
     d
     e
     (marks-same b l w b l w′ refl refl refl refl refl)
     (box-same b l w b l w′ refl refl refl refl (A .sum) refl)
-    (cap-same b l w b l w′ refl refl (A .p1) (A .p2) (A .start) (A .end) refl)
+    (cap-same b l w b l w′ refl refl (A .p1) (A .p2) (A .start) (A .end) refl refl)
     (money-same b l w b l w′ refl (A .money))
 
 -- ---- of a process

@@ -18,7 +18,7 @@ use Rattle.layout.specs.View.{isSet, isProcess, view}
 use Rattle.layout.specs.WellFormed.{Cells}
 use Rattle.layout.proofs.Field.{at-is, field-other, field-same, region-other}
 use Rattle.layout.proofs.Shown.{marks-here}
-use Rattle.layout.proofs.Frame.{state-is, house-same, object-same, bytes-same, lock-same, cash-same, marks-same-at}
+use Rattle.layout.proofs.Frame.{state-is, house-same, day-same, object-same, bytes-same, lock-same, cash-same, marks-same-at}
 use Rattle.layout.proofs.Frame.{box-same, cap-same, money-same}
 use Rattle.call_steps.specs.Run.{Process}
 use Rattle.call_steps.proofs.Process.{is-process}
@@ -42,6 +42,7 @@ module _ (b : List ℕ) (c v : ℕ) (low : Layout.SUSPENDED ≤ c) (high : c < L
       let b′ : List ℕ = set b c v in
       state-is (view b′ l w) (withMarks (view b l w) f)
       (house-same b l w b′ l w refl)
+      (day-same b l w b′ l w refl)
       (object-same b l w b′ l w refl (field-other 64 Layout.VOLUME b c v (λ i p q. omega arith)) refl refl flag-kept)
       (bytes-same b l w b′ l w refl refl refl refl (region-other 32832 Layout.DATA b c v (λ i p. omega arith)))
       (lock-same b l w b′ l w refl flag-kept refl refl)
@@ -49,7 +50,7 @@ module _ (b : List ℕ) (c v : ℕ) (low : Layout.SUSPENDED ≤ c) (high : c < L
       m
       (box-same b l w b′ l w refl flag-kept count-kept length-kept refl
       (region-other 4160 Layout.TEXT b c v (λ i p. omega arith)))
-      (cap-same b l w b′ l w refl refl refl refl refl refl refl)
+      (cap-same b l w b′ l w refl refl refl refl refl refl refl refl)
       (money-same b l w b′ l w refl refl)
 
 -- ---- the marks of a process

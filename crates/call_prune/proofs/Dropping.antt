@@ -11,7 +11,7 @@ use Rattle.rules.proofs.Tests.{by-eq}
 use Rattle.rules.proofs.Slots.{at-here, at-else}
 use Rattle.layout.specs.Layout as Layout
 use Rattle.layout.specs.Rows.{masterOf, serialOf, sizeOf, firstBlockOf, nextObjectOf, nextBlockOf}
-use Rattle.layout.specs.Rows.{ownerOf, parentOf, firstChildOf, nextCapOf, prevCapOf, rightsOf}
+use Rattle.layout.specs.Rows.{ownerOf, parentOf, firstChildOf, nextCapOf, prevCapOf, rightsOf, lastDayOf}
 use Rattle.layout.proofs.Puts.{Put, put, puts, Within, length-puts, field-puts, field-puts-at, head-puts, field-kept}
 use Rattle.call_prune.specs.Links.{namedAt, skipped, freedCap, droppedLinks, NamesSlots}
 use Rattle.call_prune.proofs.Stores.{named-first, named-next}
@@ -19,7 +19,7 @@ use Rattle.call_prune.proofs.Removing.{Unlinks}
 
 -- ---- what no end of capabilities changes
 
--- the rows and heads of objects and blocks, and of capabilities the parents and the rights
+-- the rows and heads of objects and blocks, the day, and of capabilities the parents, the rights and the last days
 pub record SameRows (l l′ : List ℕ) : Type 0 where
   pub sized : length l′ ≡ length l
   pub masters : masterOf l′ ≡ masterOf l
@@ -30,6 +30,8 @@ pub record SameRows (l l′ : List ℕ) : Type 0 where
   pub next-blocks : nextBlockOf l′ ≡ nextBlockOf l
   pub parents : parentOf l′ ≡ parentOf l
   pub rights : rightsOf l′ ≡ rightsOf l
+  pub last-days : lastDayOf l′ ≡ lastDayOf l
+  pub day : getD l′ Layout.DAY 0 ≡ getD l Layout.DAY 0
   pub objects : getD l′ Layout.OBJECTS 0 ≡ getD l Layout.OBJECTS 0
   pub free-objects : getD l′ Layout.«FREE_OBJECTS» 0 ≡ getD l Layout.«FREE_OBJECTS» 0
   pub free-blocks : getD l′ Layout.«FREE_BLOCKS» 0 ≡ getD l Layout.«FREE_BLOCKS» 0
@@ -45,6 +47,8 @@ rows-same l = record {
   next-blocks = refl;
   parents = refl;
   rights = refl;
+  last-days = refl;
+  day = refl;
   objects = refl;
   free-objects = refl;
   free-blocks = refl;
@@ -61,6 +65,8 @@ rows-then a b = record {
   next-blocks = b .next-blocks ∙ a .next-blocks;
   parents = b .parents ∙ a .parents;
   rights = b .rights ∙ a .rights;
+  last-days = b .last-days ∙ a .last-days;
+  day = b .day ∙ a .day;
   objects = b .objects ∙ a .objects;
   free-objects = b .free-objects ∙ a .free-objects;
   free-blocks = b .free-blocks ∙ a .free-blocks;
@@ -173,6 +179,8 @@ module _ {l : List ℕ} {j : ℕ} (P : NamesSlots l j) (child : parentOf l j ≢
     next-blocks = field-kept 512 Layout.«NEXT_BLOCK» l ws refl in-rows;
     parents = field-kept 512 Layout.PARENT l ws refl in-rows;
     rights = field-kept 512 Layout.RIGHTS l ws refl in-rows;
+    last-days = field-kept 512 Layout.«LAST_DAY» l ws refl in-rows;
+    day = head-puts Layout.DAY l (omega (arith, P .links)) ws refl in-rows;
     objects = head-puts Layout.OBJECTS l (omega (arith, P .links)) ws refl in-rows;
     free-objects = head-puts Layout.«FREE_OBJECTS» l (omega (arith, P .links)) ws refl in-rows;
     free-blocks = head-puts Layout.«FREE_BLOCKS» l (omega (arith, P .links)) ws refl in-rows;

@@ -23,7 +23,7 @@ use Rattle.layout.proofs.Field.{field-low}
 use Rattle.layout.proofs.Kept.{cells-kept}
 use Rattle.layout.proofs.Shaped.{shaped}
 use Rattle.layout.proofs.Shown.{cap-none, money-none, cap-shown, parent-is}
-use Rattle.layout.proofs.Frame.{state-is, house-same, object-same, bytes-same, lock-same, cash-same, marks-same}
+use Rattle.layout.proofs.Frame.{state-is, house-same, day-same, object-same, bytes-same, lock-same, cash-same, marks-same}
 use Rattle.layout.proofs.Frame.{box-same, cap-same-at, money-same-at}
 use Rattle.call_prune.specs.Links.{prunedLinks, LivingCap}
 use Rattle.call_prune.proofs.Dropping.{SameRows}
@@ -44,7 +44,7 @@ module _ (b l w l′ : List ℕ) (test : ℕ → Bool) (E : Ended l l′ test) w
   cap-ended i = by-bool (test i)
       (λ t. cap-none b l′ w i (E .gone i t) ∙ sym (end-cap (view b l w) test i t))
       (λ t. cap-same-at b l w b l′ w i (E .stays i t) (λ x. E .rows .parents x i) refl refl refl refl
-      (λ x. E .rows .rights x i) ∙ sym (stay-cap (view b l w) test i t))
+      (λ x. E .rows .rights x i) (λ x. E .rows .last-days x i) ∙ sym (stay-cap (view b l w) test i t))
 
   end-money : (i : ℕ) → test i ≡ true → endWhere (view b l w) test .money i ≡ 0
   unfolding endWhere withMoney
@@ -61,6 +61,7 @@ module _ (b l w l′ : List ℕ) (test : ℕ → Bool) (E : Ended l l′ test) w
       let R = E .rows in
       state-is (view b l′ w) (endWhere (view b l w) test)
       (house-same b l w b l′ w refl)
+      (day-same b l w b l′ w (R .day))
       (object-same b l w b l′ w (R .masters) refl (R .serials) (R .sizes) refl)
       (bytes-same b l w b l′ w (R .masters) (R .sizes) (R .first-blocks) (R .next-blocks) refl)
       (lock-same b l w b l′ w (R .masters) refl refl refl)

@@ -74,6 +74,7 @@ module _ {b l w : List ℕ} (W : WellFormed b l w) {k : ℕ} (L : LivingCap l k)
     formed = formed-of (sound-end s (below s k) (sound-of G) below-closed) mastered;
     total = rw (total-end-children s (below s k) (sound-of G) below-closed (λ j h t z. master-not j h z t))
         (W .valid .total);
+    day = W .valid .day;
   }
 
   -- with the money total that it had

@@ -64,10 +64,11 @@ module _ (b l w : List ℕ) (g : Plain b l w) (me k : ℕ) (caller : Process b l
       (t .house)
       refl
       refl
+      refl
       (lock-same b l w b l after refl refl (t .row 64 Layout.LOCK1 refl refl) (t .row 64 Layout.LOCK2 refl refl))
       cash-is
       refl
       (box-same b l w b l after refl refl refl refl (t .row 259 Layout.SUM refl refl) refl)
       (cap-same b l w b l after refl refl (t .row 512 Layout.P1 refl refl) (t .row 512 Layout.P2 refl refl)
-      (t .row 512 Layout.START refl refl) (t .row 512 Layout.END refl refl) refl)
+      (t .row 512 Layout.START refl refl) (t .row 512 Layout.END refl refl) refl refl)
       (fun-ext money-is)

@@ -1,5 +1,6 @@
 -- "All capabilities end; a new master has the old one's moneyword, window and rights": what the stores of rename_obj
--- mean. Every capability of the object descends from its master, so those below k are all but k.
+-- mean. The old one's last day stays: it is a master's. Every capability of the object descends from its master, so those
+-- below k are all but k.
 use Prim.Native.Nat.{ℕ, _≤_}
 use mathlib.Core.Path.{_≡_, refl, sym, ap, _∙_, subst}
 use mathlib.Core.Logic.{_≢_, ⊎-elim}
@@ -9,6 +10,7 @@ use native.Mathlib.Omega.{arith}
 use lib.Dec.{eqb}
 use lib.ListN.{length, getD}
 use borrow.Author.Tests.{eqb-true, eqb-false, ne-eqb}
+use Rattle.rules.specs.Limit as Limit
 use Rattle.rules.specs.Slots.{at}
 use Rattle.rules.specs.Store.{Password, State, descends}
 use Rattle.rules.specs.Valid.{Lives, Caps}
@@ -21,13 +23,16 @@ use Rattle.rules.proofs.Slots.{at-here, at-else}
 use Rattle.rules.proofs.Forest.{descends-in, master-above, master-unique}
 use Rattle.rules.proofs.Ending.{end-cap, stay-cap, stay-money}
 use Rattle.layout.specs.Layout as Layout
-use Rattle.layout.specs.Rows.{ownerOf, parentOf, cashOf, lock1Of, lock2Of, sumOf, p1Of, p2Of, moneyOf, startOf, endOf}
+use Rattle.layout.specs.Rows.{ownerOf, parentOf, lastDayOf}
+use Rattle.layout.specs.Rows.{cashOf, lock1Of, lock2Of, sumOf, p1Of, p2Of, moneyOf, startOf, endOf}
 use Rattle.layout.specs.View.{view}
 use Rattle.layout.specs.WellFormed.{WellFormed}
 use Rattle.layout.proofs.Field.{at-is}
+use Rattle.layout.proofs.Plain.{plain}
+use Rattle.layout.proofs.Asked.{fields}
 use Rattle.layout.proofs.Puts.{Put, put, puts, Within, length-puts, field-puts, field-kept, head-puts}
 use Rattle.layout.proofs.Shown.{cap-here, cap-none, cap-object, cap-shown, money-none, parent-is}
-use Rattle.layout.proofs.Frame.{state-is, house-same, object-same, bytes-same, lock-same, cash-same, marks-same}
+use Rattle.layout.proofs.Frame.{state-is, house-same, day-same, object-same, bytes-same, lock-same, cash-same, marks-same}
 use Rattle.layout.proofs.Frame.{box-same, cap-same-at, money-same-at}
 use Rattle.call_prune.specs.Links.{prunedLinks, LivingCap}
 use Rattle.call_prune.proofs.Pruning.{Pruning}
@@ -137,6 +142,10 @@ module _ {b l w : List ℕ} (W : WellFormed b l w) {k : ℕ} (L : LivingCap l k)
 
     -- ---- in the view
 
+    -- 02, CR 9: "A master's is 65,535."
+    masters-day : lastDayOf l k ≡ Limit.day
+    masters-day = fields (plain W) .caps k (L .live) .whole top .2
+
     cap-k : view b l₁ w₁ .cap k ≡ newMaster s c me k
     unfolding newMaster
     cap-k = cap-here b l₁ w₁ k (T .live) ∙ rw (cap-here b l w k (L .live)) (λ x. record {
@@ -148,6 +157,7 @@ module _ {b l w : List ℕ} (W : WellFormed b l w) {k : ℕ} (L : LivingCap l k)
       };
       window = record { start = R .starts x k; end = R .ends x k };
       rights = T .rows .rights x k;
+      lastDay = ((λ y. T .rows .last-days y k) ∙ masters-day) x;
     })
 
     cap-else : (i : ℕ) → i ≢ k → view b l₁ w₁ .cap i ≡ emptied s c me k .cap i
@@ -158,6 +168,7 @@ module _ {b l w : List ℕ} (W : WellFormed b l w) {k : ℕ} (L : LivingCap l k)
         ((λ x. R .first-half x i) ∙ at-else (p1Of w) k (c .drawn .p1) i n)
         ((λ x. R .second-half x i) ∙ at-else (p2Of w) k (c .drawn .p2) i n)
         (λ x. R .starts x i) (λ x. R .ends x i) (λ x. T .rows .rights x i)
+        (λ x. T .rows .last-days x i)
         ∙ sym (stay-cap s mine i t))
 
     money-k : view b l₁ w₁ .money k ≡ s .money k
@@ -180,6 +191,7 @@ module _ {b l w : List ℕ} (W : WellFormed b l w) {k : ℕ} (L : LivingCap l k)
         let m = T .rows .masters in
         state-is (view b l₁ w₁) (newCap (emptied s c me k) k (newMaster s c me k) (s .money k))
         (house-same b l w b l₁ w₁ (R .house))
+        (day-same b l w b l₁ w₁ (T .rows .day))
         (object-same b l w b l₁ w₁ m refl (T .rows .serials) (T .rows .sizes) refl)
         (bytes-same b l w b l₁ w₁ m (T .rows .sizes) (T .rows .first-blocks) (T .rows .next-blocks) refl)
         (lock-same b l w b l₁ w₁ m refl (R .lock1) (R .lock2))

@@ -27,7 +27,7 @@ use Rattle.rules.proofs.Slots.{at-here, at-else}
 use Rattle.layout.proofs.Field.{at-is, field-in}
 use Rattle.layout.proofs.Puts.{Put, put, puts, Within, beside, length-puts, field-puts, field-kept, head-puts}
 use Rattle.layout.proofs.Shown.{cash-here}
-use Rattle.layout.proofs.Frame.{state-is, object-same, bytes-same, lock-same, marks-same, box-same, cap-same}
+use Rattle.layout.proofs.Frame.{state-is, day-same, object-same, bytes-same, lock-same, marks-same, box-same, cap-same}
 use Rattle.layout.proofs.Frame.{money-same, cash-same-at}
 use Rattle.call_steps.specs.Run.{Process}
 use Rattle.call_steps.specs.Paying.{paidWords, CanPay}
@@ -79,6 +79,7 @@ module _ (b l w : List ℕ) (me : ℕ) (P : Process b l me) where
     unfolding paidWords toHouse spend withHouse withCash
     fee-view = state-is (view b l after) (toHouse (spend (view b l w) me fee) fee)
         house-paid
+        (day-same b l w b l after refl)
         (object-same b l w b l after refl refl refl refl refl)
         (bytes-same b l w b l after refl refl refl refl refl)
         (lock-same b l w b l after refl refl (kept 64 Layout.LOCK1 refl) (kept 64 Layout.LOCK2 refl))
@@ -86,7 +87,7 @@ module _ (b l w : List ℕ) (me : ℕ) (P : Process b l me) where
         (marks-same b l w b l after refl refl refl refl refl)
         (box-same b l w b l after refl refl refl refl (kept 259 Layout.SUM refl) refl)
         (cap-same b l w b l after refl refl (kept 512 Layout.P1 refl) (kept 512 Layout.P2 refl)
-        (kept 512 Layout.START refl) (kept 512 Layout.END refl) refl)
+        (kept 512 Layout.START refl) (kept 512 Layout.END refl) refl refl)
         (money-same b l w b l after refl (kept 512 Layout.MONEY refl))
 
     fee-sized : Sized b l (paidWords w me fee)
@@ -123,6 +124,7 @@ module _ (b l w : List ℕ) (W : Plain b l w) where
   }
 
   pub fee-plain : (me fee : ℕ) → Process b l me → fee ≤ s .cash me → Plain b l (paidWords w me fee)
+  unfolding toHouse spend withHouse withCash
   fee-plain me fee P h =
       let K = keep-fee s (W .valid .formed) me (process-shown b l w me P) fee h in
       record {
@@ -130,7 +132,7 @@ module _ (b l w : List ℕ) (W : Plain b l w) where
         cells = W .cells;
         blocks = W .blocks;
         valid = subst Valid (sym (fee-view b l w me P (W .sized) fee))
-            (record { formed = K .formed; total = omega (arith, K .total, W .valid .total) });
+            (record { formed = K .formed; total = omega (arith, K .total, W .valid .total); day = W .valid .day });
       }
 
   -- ---- of a call that 2, 3 and 4 do not refuse

@@ -4,7 +4,7 @@ use mathlib.Core.Path.{_≡_, sym, ap, ap₂, _∙_, subst}
 use mathlib.Core.Logic.{_≢_}
 use mathlib.Core.Bool.{true}
 use mathlib.Core.List.{List}
-use lib.Dec.{eqb}
+use lib.Dec.{eqb, ltb}
 use lib.ListN.{getD}
 use borrow.Author.Tests.{eq-eqb, eqb-true}
 use Rattle.rules.specs.Slots.{find}
@@ -12,6 +12,7 @@ use Rattle.rules.specs.Store.{Cap, Password, State, objectNamed}
 use Rattle.rules.specs.Valid.{Lives, Formed}
 use Rattle.rules.specs.Call.{Capability}
 use Rattle.rules.specs.Password.{unlock, presented}
+use Rattle.rules.specs.Refusals.{expired}
 use Rattle.rules.proofs.Tests.{by-eq, both-true, all2}
 use Rattle.rules.proofs.Slots.{find-finds, find-some}
 use Rattle.rules.proofs.Presenting.{named, found-live, not-named, shown, presents}
@@ -135,7 +136,7 @@ presented-held b l w me x h =
 pub found-held : (b l w : List ℕ) (me : ℕ) (x : Capability) (k : ℕ) → k ≡ presented (view b l w) me x → k ≢ 0 → Held l k
 found-held b l w me x k e nz = subst (Held l) (sym e) (presented-held b l w me x (λ z. nz (e ∙ z)))
 
--- ---- the lockword of a process, and the rights of a capability
+-- ---- the lockword of a process, the rights of a capability, and whether it is expired
 
 pub lock-is : (b l w : List ℕ) (me : ℕ) → Process b l me
     → view b l w .lock me
@@ -149,3 +150,8 @@ lock-is b l w me P =
 
 pub rights-is : (b l w : List ℕ) (k : ℕ) → Held l k → view b l w .cap k .rights ≡ getD l (Layout.RIGHTS + k) 0
 rights-is b l w k H = rw (cap-here b l w k (H .live), field-in 512 Layout.RIGHTS l k (H .low) (H .high))
+
+pub expired-is : (b l w : List ℕ) (k : ℕ) → Held l k
+    → expired (view b l w) k ≡ ltb (getD l (Layout.«LAST_DAY» + k) 0) (getD l Layout.DAY 0)
+unfolding expired view
+expired-is b l w k H = rw (cap-here b l w k (H .live), field-in 512 Layout.«LAST_DAY» l k (H .low) (H .high))

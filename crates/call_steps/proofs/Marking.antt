@@ -86,6 +86,7 @@ module _ (b l w : List ℕ) (me : ℕ) (P : Process b l me) (Z : Sized b l w) wh
   unfolding terminatedBytes setTerminated withMarks view
   mark-view = state-is (view after l w) (setTerminated (view b l w) me true)
       refl
+      refl
       (object-same b l w after l w refl (kept 64 Layout.VOLUME refl) refl refl flags)
       (bytes-same b l w after l w refl refl refl refl (region-same 32832 Layout.DATA refl))
       (lock-same b l w after l w refl flags refl refl)
@@ -113,7 +114,7 @@ module _ (b l w : List ℕ) (me : ℕ) (P : Process b l me) (Z : Sized b l w) wh
   mark-sized = record { bytes = length-puts stores b ∙ Z .bytes; links = Z .links; words = Z .words }
 
 pub mark-plain : (b l w : List ℕ) → Plain b l w → (me : ℕ) → Process b l me → Plain (terminatedBytes b me) l w
-unfolding setTerminated
+unfolding setTerminated withMarks
 mark-plain b l w W me P =
     let K = keep-mark (view b l w) (W .valid .formed) me (process-shown b l w me P) (ended (view b l w .marks me)) in
     record {
@@ -121,7 +122,7 @@ mark-plain b l w W me P =
       cells = mark-cells b l w me P (W .sized) (W .cells);
       blocks = W .blocks;
       valid = subst Valid (sym (mark-view b l w me P (W .sized)))
-          (record { formed = K .formed; total = omega (arith, K .total, W .valid .total) });
+          (record { formed = K .formed; total = omega (arith, K .total, W .valid .total); day = W .valid .day });
     }
 
 -- ---- of a call that 4 refuses

@@ -1,4 +1,4 @@
--- Refusals 5 and 6, by the right that is asked.
+-- Refusals 5, 19 and 6, by the right that is asked.
 use Prim.Native.Nat.{ℕ}
 use mathlib.Core.Path.{_≡_}
 use Rattle.rules.specs.Store.{State}

@@ -35,6 +35,8 @@ callOf r text buffer scratch = record {
   buffer = buffer;
   scratch = scratch;
   limit = r .limit;
+  lastDay = r .«last_day»;
+  day = r .day;
 }
 
 -- a call of this number with a range and a sum; the arguments that it does not use are 0
@@ -52,6 +54,8 @@ presentingRequest number caller presented range sum = record {
   sum = sum;
   lock = 0 ∷ 0 ∷ [];
   limit = 0;
+  «last_day» = 0;
+  day = 0;
 }
 
 abbrev pub readRequest : Name → Capability → Window → Request

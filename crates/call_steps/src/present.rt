@@ -1,10 +1,11 @@
-// Refusals 5 and 6: the capability presented, and the right that is asked of it.
+// Refusals 5, 19 and 6: the capability presented, its last day, and the right that is asked of it.
 ghost use mathlib.Core.Path.{_≡_};
 ghost use mathlib.Core.List.{List};
 ghost use Prim.Native.Nat.{ℕ};
 ghost use lib.ListN.{length};
 ghost use Rattle.rules.specs.Rights.{has};
 ghost use Rattle.rules.specs.Password.{presented};
+ghost use Rattle.rules.specs.Refusals.{expired};
 ghost use Rattle.layout.specs.Layout;
 ghost use Rattle.layout.specs.View.{view};
 ghost use Rattle.layout.specs.WellFormed.{Plain};
@@ -14,11 +15,14 @@ ghost use Rattle.call_steps.specs.Run.{Process, Held};
 use crate::objects::find_object;
 use crate::owned::find_cap;
 use crate::request::Capability;
+use layout::DAY;
+use layout::LAST_DAY;
 use layout::LOCK1;
 use layout::LOCK2;
 use layout::P2;
 use layout::RIGHTS;
 use values::code::DONE;
+use values::code::EXPIRED;
 use values::code::NOT_FOUND;
 use values::code::RIGHT_MISSING;
 use values::password::unlock;
@@ -51,6 +55,14 @@ pub fn right_held(links: &[u16], k: usize, right: Rights) -> bool
     rights.has(right)
 }
 
+// The store's day is after the last day of the capability in slot k.
+pub fn expired(links: &[u16], k: usize) -> bool
+    requires { ⌜ length (now links) ≡ Layout.LINKS ⌝ ∗ ⌜ Held (now links) k ⌝ }
+    ensures { λ r. ⌜ ((b w : List ℕ) → r ≡ expired (view b (now (links .entry)) w) k) ⌝ }
+{
+    links[LAST_DAY + k] < links[DAY]
+}
+
 // 0, or why a right is not granted; the slot of the capability presented, 0 if there is none.
 pub struct Admitted {
     pub code: u32,
@@ -75,6 +87,12 @@ pub fn admit(
         return Admitted {
             code: NOT_FOUND,
             slot: 0,
+        };
+    }
+    if expired(links, k) {
+        return Admitted {
+            code: EXPIRED,
+            slot: k,
         };
     }
     if right_held(links, k, right) {

@@ -12,6 +12,7 @@ ghost use Rattle.values.specs.Words.{windowOf};
 ghost use Rattle.call_steps.specs.Request.{nameOf, callOf};
 use crate::request::Name;
 use crate::request::Request;
+use values::limit::MAX_DAY;
 use values::limit::MAX_MESSAGE;
 use values::limit::MAX_RIGHTS;
 use values::limit::MAX_SERIAL;
@@ -86,14 +87,16 @@ fn write_fits(range: Window, text: usize) -> bool
 }
 
 // derive_cap's.
-fn derive_fits(rights: u32, range: Window) -> bool
-    ensures { λ r. ⌜ r ≡ (leb rights Limit.rights && ordered (windowOf range)) ⌝ }
+fn derive_fits(rights: u32, range: Window, last_day: u32) -> bool
+    ensures { λ r. ⌜ r ≡ (leb rights Limit.rights && ordered (windowOf range) && leb «last_day» Limit.day) ⌝ }
 {
-    if rights <= MAX_RIGHTS {
-        range.start <= range.end
-    } else {
-        false
+    if rights > MAX_RIGHTS {
+        return false;
     }
+    if range.start > range.end {
+        return false;
+    }
+    last_day <= MAX_DAY
 }
 
 // The ranges of a call's own arguments, in call order.
@@ -107,7 +110,7 @@ fn arguments_fit(req: Request, text: usize, buffer: usize, scratch: usize) -> bo
         2 => read_fits(req.range, buffer),
         3 => write_fits(req.range, text),
         4 => true,
-        5 => derive_fits(req.rights, req.range),
+        5 => derive_fits(req.rights, req.range, req.last_day),
         6 => scratch >= MIN_SCRATCH,
         7 => scratch >= MIN_SCRATCH,
         8 => true,

@@ -54,6 +54,8 @@ pub struct Request {
     pub rights: u32,
     pub sum: u32,
     pub limit: u32,
+    pub last_day: u32,
+    pub day: u32,
 }
 
 impl Request {
@@ -83,6 +85,8 @@ impl Request {
             sum: sum,
             lock: [0, 0],
             limit: 0,
+            last_day: 0,
+            day: 0,
         }
     }
 

@@ -18,7 +18,7 @@ use Rattle.layout.specs.Shape.{times, Blocks}
 use Rattle.layout.specs.WellFormed.{Cells}
 use Rattle.layout.proofs.Field.{at-is, field-cells, region-cells, region-at, region-length}
 use Rattle.layout.proofs.Shown.{bytes-here, bytes-none}
-use Rattle.layout.proofs.Frame.{state-is, house-same, object-same, lock-same, cash-same, marks-same, box-same}
+use Rattle.layout.proofs.Frame.{state-is, house-same, day-same, object-same, lock-same, cash-same, marks-same, box-same}
 use Rattle.layout.proofs.Frame.{cap-same, money-same, bytes-same-at}
 use Rattle.layout.proofs.Kept.{cells-kept}
 use Rattle.layout.proofs.Linking.{chain-high}
@@ -142,6 +142,7 @@ module _ (b l : List ℕ) (long : length b ≡ Layout.BYTES) (B : Blocks l) (o :
       state-is (view after l w)
       (withBytes (view b l w) (at (view b l w .bytes) o (replaced start text (view b l w .bytes o))))
       (house-same b l w after l w refl)
+      (day-same b l w after l w refl)
       (object-same b l w after l w refl (row-kept 64 Layout.VOLUME (omega arith)) refl refl flag)
       (at-is (view b l w .bytes) (view after l w .bytes) o _ (here w) (other-kept w))
       (lock-same b l w after l w refl flag refl refl)
@@ -150,7 +151,7 @@ module _ (b l : List ℕ) (long : length b ≡ Layout.BYTES) (B : Blocks l) (o :
       (row-kept 64 Layout.WAITING (omega arith)) (row-kept 64 Layout.TERMINATED (omega arith)))
       (box-same b l w after l w refl flag (row-kept 64 Layout.COUNT (omega arith))
       (row-kept 259 Layout.LENGTH (omega arith)) refl text-kept)
-      (cap-same b l w after l w refl refl refl refl refl refl refl)
+      (cap-same b l w after l w refl refl refl refl refl refl refl refl)
       (money-same b l w after l w refl refl)
 
   pub write-cells : Cells b l → Cells after l

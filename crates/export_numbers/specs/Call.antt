@@ -8,13 +8,13 @@ use Rattle.export_numbers.specs.Numbers.{nameAt, capabilityAt, windowAt}
 
 -- how many numbers a request and a reply have
 abbrev pub requestLength : ℕ
-requestLength = 20
+requestLength = 22
 
 abbrev pub replyLength : ℕ
 replyLength = 9
 
 -- the number, the caller, the capability presented, the name, size, flag, rights, the password drawn, the range, the
--- sum, the lock, the limit
+-- sum, the lock, the limit, the last day, the day
 unfoldable pub requestOf : List ℕ → Request
 requestOf l = record {
   number = getD l 0 0;
@@ -29,6 +29,8 @@ requestOf l = record {
   sum = getD l 16 0;
   lock = getD l 17 0 ∷ getD l 18 0 ∷ [];
   limit = getD l 19 0;
+  «last_day» = getD l 20 0;
+  day = getD l 21 0;
 }
 
 -- the code, a new capability, length, moneyword, sum, and how many bytes stand at the buffer's front

@@ -9,11 +9,11 @@ use call_steps::request::Reply;
 use call_steps::request::Request;
 
 // How many numbers a request and a reply have.
-pub const REQUEST: usize = 20;
+pub const REQUEST: usize = 22;
 
 pub const REPLY: usize = 9;
 
-// The 20 numbers of a request.
+// The 22 numbers of a request.
 pub fn request_of(numbers: &[u32]) -> Request
     requires { ⌜ length (now numbers) ≡ requestLength ⌝ }
     ensures { λ r. ⌜ r ≡ requestOf (now (numbers .entry)) ⌝ }
@@ -31,6 +31,8 @@ pub fn request_of(numbers: &[u32]) -> Request
         sum: numbers[16],
         lock: [numbers[17], numbers[18]],
         limit: numbers[19],
+        last_day: numbers[20],
+        day: numbers[21],
     }
 }
 

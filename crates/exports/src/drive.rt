@@ -2,18 +2,7 @@
 ghost use mathlib.Core.List.{[]};
 ghost use Rattle.layout.specs.WellFormed.{WellFormed};
 ghost use Rattle.kernel_step.specs.Slices.{slices};
-ghost use Rattle.exports.specs.Drive.{Exported};
-use export_numbers::drive::REPLY;
-use export_numbers::drive::REQUEST;
-use export_numbers::drive::place_of;
-use export_numbers::drive::put_picked;
-use export_numbers::drive::repeat_of;
-use export_numbers::numbers::capability_at;
-use export_numbers::numbers::fits;
-use export_numbers::numbers::name_at;
-use product_drive::pick;
-use product_drive::pick_unchecked;
-use values::code::OUT_OF_RANGE;
+ghost use Rattle.export_drive.specs.Exported.{Exported};
 
 // Makes a pick: 11 numbers of a request, 5 of the reply. Where either slice has another length, nothing is written, and
 // it is 2.
@@ -30,25 +19,7 @@ pub extern "C" fn drive_pick(
         (slices (now (bytes .entry)) (now (links .entry)) (now (words .entry)) (now (buffer .entry)) [])
         (slices (now (bytes .exit)) (now (links .exit)) (now (words .exit)) (now (buffer .exit)) []) ⌝ }
 {
-    if fits(request.len(), REQUEST, reply.len(), REPLY) {
-        let caller = name_at(request, 0);
-        let presented = capability_at(request, 2);
-        let repeat = repeat_of(request);
-        let place = place_of(request);
-        let p = pick(
-            bytes,
-            links,
-            words,
-            buffer,
-            caller,
-            presented,
-            repeat,
-            place,
-        );
-        put_picked(p, reply);
-        return p.code;
-    }
-    OUT_OF_RANGE
+    export_drive::pick_by_numbers(bytes, links, words, buffer, request, reply)
 }
 
 // The same on a store that its caller has found well formed, which is not checked again. C cannot state that by a type, and
@@ -67,23 +38,5 @@ pub extern "C" fn drive_pick_unchecked(
         (slices (now (bytes .entry)) (now (links .entry)) (now (words .entry)) (now (buffer .entry)) [])
         (slices (now (bytes .exit)) (now (links .exit)) (now (words .exit)) (now (buffer .exit)) []) ⌝ }
 {
-    if fits(request.len(), REQUEST, reply.len(), REPLY) {
-        let caller = name_at(request, 0);
-        let presented = capability_at(request, 2);
-        let repeat = repeat_of(request);
-        let place = place_of(request);
-        let r = pick_unchecked(
-            bytes,
-            links,
-            words,
-            buffer,
-            caller,
-            presented,
-            repeat,
-            place,
-        );
-        put_picked(r, reply);
-        return r.code;
-    }
-    OUT_OF_RANGE
+    export_drive::pick_unchecked_by_numbers(bytes, links, words, buffer, request, reply)
 }

@@ -4,20 +4,8 @@ ghost use mathlib.Core.List.{[]};
 ghost use Rattle.call_steps.specs.Request.{readRequest, writeRequest};
 ghost use Rattle.kernel_step.specs.Slices.{slices};
 ghost use Rattle.product_hooks.specs.Turned.{turned};
-ghost use Rattle.exports.specs.Hooks.{Exported};
-use export_numbers::call::REPLY;
-use export_numbers::call::put_reply;
-use export_numbers::numbers::capability_at;
-use export_numbers::numbers::fits;
-use export_numbers::numbers::name_at;
-use export_numbers::numbers::unfit;
-use export_numbers::numbers::window_at;
+ghost use Rattle.export_hooks.specs.Exported.{Exported};
 use product_hooks::pattern::turn;
-use product_hooks::read_by_hook;
-use product_hooks::write_by_hook;
-
-// How many numbers a request has; a reply has those of a call's.
-const REQUEST: usize = 8;
 
 // Writes by hook: 8 numbers of a request, 9 of the reply. Where either slice has another length, nothing is written, and
 // it is 1 on a store that is not well formed, else 2.
@@ -34,15 +22,7 @@ pub extern "C" fn hook_write(
         (slices (now (bytes .entry)) (now (links .entry)) (now (words .entry)) [] [])
         (slices (now (bytes .exit)) (now (links .exit)) (now (words .exit)) [] []) ⌝ }
 {
-    if fits(request.len(), REQUEST, reply.len(), REPLY) {
-        let caller = name_at(request, 0);
-        let presented = capability_at(request, 2);
-        let to = window_at(request, 6);
-        let answer = write_by_hook(bytes, links, words, text, caller, presented, to);
-        put_reply(answer, reply);
-        return answer.code;
-    }
-    unfit(bytes, links, words)
+    export_hooks::write_by_numbers(bytes, links, words, text, request, reply)
 }
 
 // Reads by hook, in the same way.
@@ -59,15 +39,7 @@ pub extern "C" fn hook_read(
         (slices (now (bytes .entry)) (now (links .entry)) (now (words .entry)) (now (buffer .entry)) [])
         (slices (now (bytes .exit)) (now (links .exit)) (now (words .exit)) (now (buffer .exit)) []) ⌝ }
 {
-    if fits(request.len(), REQUEST, reply.len(), REPLY) {
-        let caller = name_at(request, 0);
-        let presented = capability_at(request, 2);
-        let from = window_at(request, 6);
-        let r = read_by_hook(bytes, links, words, buffer, caller, presented, from);
-        put_reply(r, reply);
-        return r.code;
-    }
-    unfit(bytes, links, words)
+    export_hooks::read_by_numbers(bytes, links, words, buffer, request, reply)
 }
 
 // Turns a pattern where it stands, without a store.

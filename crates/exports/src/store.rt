@@ -6,14 +6,7 @@ ghost use Rattle.layout.specs.Decides.{Decides};
 ghost use Rattle.values.specs.Words.{passwordOf};
 ghost use Rattle.kernel_fresh.specs.Fresh.{Fresh};
 ghost use Rattle.kernel_step.specs.Slices.{slices};
-ghost use Rattle.exports.specs.Store.{Exported};
-use export_numbers::call::REPLY;
-use export_numbers::call::REQUEST;
-use export_numbers::call::put_reply;
-use export_numbers::call::request_of;
-use export_numbers::numbers::fits;
-use export_numbers::numbers::unfit;
-use values::code::OUT_OF_RANGE;
+ghost use Rattle.export_calls.specs.Exported.{Exported};
 
 // Whether the store is well formed.
 #[no_mangle]
@@ -39,7 +32,7 @@ pub extern "C" fn store_fresh(
     kernel_fresh::fresh(supply, [p1, p2], bytes, links, words)
 }
 
-// Makes a call: 20 numbers of a request, 9 of the reply. Where either slice has another length, nothing is written, and
+// Makes a call: 22 numbers of a request, 9 of the reply. Where either slice has another length, nothing is written, and
 // it is 1 on a store that is not well formed, else 2.
 #[no_mangle]
 pub extern "C" fn store_call(
@@ -56,13 +49,7 @@ pub extern "C" fn store_call(
         (slices (now (bytes .entry)) (now (links .entry)) (now (words .entry)) (now (buffer .entry)) (now (scratch .entry)))
         (slices (now (bytes .exit)) (now (links .exit)) (now (words .exit)) (now (buffer .exit)) (now (scratch .exit))) ⌝ }
 {
-    if fits(request.len(), REQUEST, reply.len(), REPLY) {
-        let asked = request_of(request);
-        let answer = kernel_call::call(bytes, links, words, text, buffer, scratch, asked);
-        put_reply(answer, reply);
-        return answer.code;
-    }
-    unfit(bytes, links, words)
+    export_calls::call_by_numbers(bytes, links, words, text, buffer, scratch, request, reply)
 }
 
 // The same on a store that its caller has found well formed, which is not checked again. C cannot state that by a type, and
@@ -83,11 +70,5 @@ pub extern "C" fn store_step_unchecked(
         (slices (now (bytes .entry)) (now (links .entry)) (now (words .entry)) (now (buffer .entry)) (now (scratch .entry)))
         (slices (now (bytes .exit)) (now (links .exit)) (now (words .exit)) (now (buffer .exit)) (now (scratch .exit))) ⌝ }
 {
-    if fits(request.len(), REQUEST, reply.len(), REPLY) {
-        let req = request_of(request);
-        let r = kernel_step::step(bytes, links, words, text, buffer, scratch, req);
-        put_reply(r, reply);
-        return r.code;
-    }
-    OUT_OF_RANGE
+    export_calls::step_by_numbers(bytes, links, words, text, buffer, scratch, request, reply)
 }

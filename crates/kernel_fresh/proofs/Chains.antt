@@ -1,7 +1,7 @@
 -- A chain of free records: what its cells hold, and that it is the chain of exactly the records from the last down to 1.
 -- One law for objects, capabilities and blocks.
 use Prim.Native.Nat.{ℕ, zero, suc, _+_, _≤_, _<_}
-use mathlib.Core.Path.{_≡_, refl, ap, _∙_, fun-ext}
+use mathlib.Core.Path.{_≡_, refl, sym, ap, _∙_, fun-ext}
 use mathlib.Core.Logic.{_≢_}
 use mathlib.Core.Bool.{true, false}
 use mathlib.Core.List.{List, [], _∷_}
@@ -64,12 +64,12 @@ free-apart n at head off last l a b =
     (apart-cells n at head head j head a low high (omega arith) (omega arith))))
 
 -- a cell that is not in the row, and not the head
-pub free-else : (head off last : ℕ) (l : List ℕ) (c : ℕ) → leb c off ≡ true → eqb c head ≡ false
+pub free-else : (head off last : ℕ) (l : List ℕ) (c : ℕ) → apart last off c c ≡ true → eqb c head ≡ false
     → getD (freeChain head off last l) c 0 ≡ getD l c 0
 unfolding freeChain
-free-else head off last l c below other =
-    let b : c ≤ off = leb-true c off below in
-    chain-else off last (set l head last) c (λ j p q r. omega arith)
+free-else head off last l c outside other =
+    chain-else off last (set l head last) c
+    (λ j p q r. apart-cells last off c c j c outside p q (omega arith) (omega arith) (sym r))
     ∙ set-else l head c last other
 
 -- the head

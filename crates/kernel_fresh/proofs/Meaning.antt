@@ -15,6 +15,7 @@ use Rattle.layout.proofs.Field.{at-is}
 use Rattle.kernel_fresh.proofs.Rows.{none, only, master, flag, owner}
 use Rattle.kernel_fresh.proofs.Rows.{flag-row, volume-row, suspended-row, waiting-row, terminated-row, count-row}
 use Rattle.kernel_fresh.proofs.Rows.{master-row, serial-row, size-row, owner-row, parent-row, rights-row}
+use Rattle.kernel_fresh.proofs.Rows.{last-day-row, day-cell}
 use Rattle.kernel_fresh.proofs.Rows.{house-cell, cash-row, lock1-row, lock2-row}
 use Rattle.kernel_fresh.proofs.Rows.{p1-row, p2-row, money-row, start-row, end-row}
 
@@ -53,6 +54,10 @@ module _ (supply : ℕ) (p : Password) where
   unfolding view
   house = house-cell supply p
 
+  day : S .day ≡ 0
+  unfolding view
+  day = day-cell
+
   objects : S .object ≡ fresh supply p .object
   unfolding view View.objects fresh isSet at
   objects =
@@ -88,7 +93,7 @@ module _ (supply : ℕ) (p : Password) where
   cap : S .cap ≡ fresh supply p .cap
   unfolding view View.caps fresh isSet at noWindow
   cap =
-      rw (owner-row, parent-row, p1-row supply p, p2-row supply p, start-row supply p, end-row supply p, rights-row)
+      rw (owner-row, parent-row, p1-row supply p, p2-row supply p, start-row supply p, end-row supply p, rights-row, last-day-row)
       (only-at (λ i. isSet (owner i)) noCap _ Limit.caps refl (unset Limit.caps Limit.objects))
 
   money : S .money ≡ (λ i. 0)
@@ -101,6 +106,7 @@ module _ (supply : ℕ) (p : Password) where
   unfolding fresh
   fresh-means = λ i. record {
     house = house i;
+    day = day i;
     object = objects i;
     bytes = bytes i;
     lock = lock i;

@@ -9,7 +9,7 @@ use Rattle.rules.specs.Slots.{at}
 use Rattle.layout.specs.Layout as Layout
 use Rattle.layout.specs.Rows.{volumeOf, flagOf, suspendedOf, waitingOf, terminatedOf, countOf}
 use Rattle.layout.specs.Rows.{masterOf, serialOf, sizeOf, firstBlockOf}
-use Rattle.layout.specs.Rows.{ownerOf, parentOf, firstChildOf, prevCapOf, rightsOf}
+use Rattle.layout.specs.Rows.{ownerOf, parentOf, firstChildOf, prevCapOf, rightsOf, lastDayOf}
 use Rattle.layout.specs.Rows.{nextObjectOf, nextCapOf, nextBlockOf}
 use Rattle.layout.specs.Rows.{cashOf, lock1Of, lock2Of, p1Of, p2Of, moneyOf, startOf, endOf}
 use Rattle.kernel_fresh.specs.Slices.{freshBytes, freshLinks, freeLinks, firstLinks, freshWords}
@@ -100,6 +100,14 @@ prev-cap-row = simp rows
 pub rights-row : rightsOf freshLinks ≡ only Limit.caps Limit.rights
 unfolding freshLinks freeLinks firstLinks
 rights-row = simp rows
+
+pub last-day-row : lastDayOf freshLinks ≡ only Limit.caps Limit.day
+unfolding freshLinks freeLinks firstLinks
+last-day-row = simp rows
+
+pub day-cell : getD freshLinks Layout.DAY 0 ≡ 0
+unfolding freshLinks freeLinks firstLinks
+day-cell = simp cells
 
 -- the chains of free records
 pub free-objects : FreeTo Limit.objects (Limit.objects - 1) (nextObjectOf freshLinks)

@@ -21,10 +21,11 @@ freeLinks l =
     (freeChain Layout.«FREE_OBJECTS» Layout.«NEXT_OBJECT» (Limit.objects - 1) l))
 
 -- the last object is the chain of objects; its master is the last capability, its serial 1, its size 0; that capability
--- has all rights
+-- has all rights and the last day 65,535. The day is 0
 unfoldable pub firstLinks : List ℕ → List ℕ
 firstLinks l =
     set
+    (set
     (set
     (set
     (set (set l Layout.OBJECTS Limit.objects) (Layout.MASTER + Limit.objects) Limit.caps)
@@ -33,7 +34,9 @@ firstLinks l =
     (Layout.OWNER + Limit.caps)
     Limit.objects)
     (Layout.RIGHTS + Limit.caps)
-    Limit.rights
+    Limit.rights)
+    (Layout.«LAST_DAY» + Limit.caps)
+    Limit.day
 
 unfoldable pub freshLinks : List ℕ
 freshLinks = firstLinks (freeLinks (zeros Layout.LINKS))

@@ -8,6 +8,7 @@ use layout::FLAG;
 use layout::FREE_BLOCKS;
 use layout::FREE_CAPS;
 use layout::FREE_OBJECTS;
+use layout::LAST_DAY;
 use layout::LINKS;
 use layout::MASTER;
 use layout::NEXT_BLOCK;
@@ -22,6 +23,7 @@ use layout::SERIAL;
 use layout::WORDS;
 use values::limit::MAX_BLOCKS;
 use values::limit::MAX_CAPS;
+use values::limit::MAX_DAY;
 use values::limit::MAX_OBJECTS;
 use values::limit::MAX_RIGHTS;
 ghost use mathlib.Core.Path.{_≡_};
@@ -39,6 +41,9 @@ const LAST_CAP: u16 = MAX_CAPS as u16;
 const LAST_BLOCK: u16 = MAX_BLOCKS as u16;
 
 const ALL_RIGHTS: u16 = MAX_RIGHTS as u16;
+
+// 02, CR 9, of last days: "A master's is 65,535."
+const MASTERS_LAST_DAY: u16 = MAX_DAY as u16;
 
 // The last object is a process, its marks clear, its box empty.
 fn fresh_bytes(bytes: &mut [u8])
@@ -59,7 +64,8 @@ fn free_links(links: &mut [u16])
     chain::free_chain(links, FREE_BLOCKS, NEXT_BLOCK, LAST_BLOCK);
 }
 
-// The last object is the only one in the chain of objects, and the last capability, with all rights, is its master.
+// The last object is the only one in the chain of objects, and the last capability, with all rights and a master's last
+// day, is its master. The day stays 0.
 fn first_links(links: &mut [u16])
     requires { ⌜ length (now links) ≡ Layout.LINKS ⌝ }
     ensures { λ _. ⌜ now (links .exit) ≡ firstLinks (now (links .entry)) ⌝ }
@@ -69,6 +75,7 @@ fn first_links(links: &mut [u16])
     links[SERIAL + MAX_OBJECTS] = 1;
     links[OWNER + MAX_CAPS] = LAST_OBJECT;
     links[RIGHTS + MAX_CAPS] = ALL_RIGHTS;
+    links[LAST_DAY + MAX_CAPS] = MASTERS_LAST_DAY;
 }
 
 fn fresh_links(links: &mut [u16])

@@ -137,10 +137,12 @@ module _ {b l w : List ℕ} {c : Call} {me k : ℕ} (A : OwnAsks b l w c me k) w
   pub make-asked : op (c .number) ≡ makeObj → Make.MakeAsks b l w (c .name) (c .size) (c .flag) (c .rights)
   make-asked e = make-asks (A .late .formed) c e (A .late .range)
 
-  pub derive-asked : op (c .number) ≡ deriveCap → DeriveAsks b l w k (c .rights)
+  pub derive-asked : op (c .number) ≡ deriveCap → DeriveAsks b l w k (c .rights) (c .lastDay)
   unfolding presents argumentsFit
-  derive-asked e = derive-asks (A .late .formed) (held deriveCap e refl)
-      (leb-true _ _ (all2 (leb (c .rights) Limit.rights) (ordered (c .range)) (fits c deriveCap e (A .late .range)) .0))
+  derive-asked e =
+      let f = all3 (leb (c .rights) Limit.rights) (ordered (c .range)) (leb (c .lastDay) Limit.day)
+      (fits c deriveCap e (A .late .range)) in
+      derive-asks (A .late .formed) (held deriveCap e refl) (leb-true _ _ (f .0)) (leb-true _ _ (f .2))
 
   pub delete-asked : op (c .number) ≡ deleteCap → DeleteAsks b l w k
   unfolding presents

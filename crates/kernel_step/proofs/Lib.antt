@@ -3,6 +3,7 @@ pub mod Asked
 -- the replies and the runs, as the code comes to them
 pub mod Replying
 -- the exact runs are what the rules give, and what they leave where they refuse
+pub mod Choosing
 pub mod Shaping
 pub mod Meeting
 pub mod Taking

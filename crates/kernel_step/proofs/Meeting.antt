@@ -18,6 +18,7 @@ use Rattle.call_steps.specs.Run.{Meets, MeetsPlain}
 use Rattle.call_enter.specs.Begins.{Begins}
 use Rattle.call_enter.proofs.Meeting.{MeetsRule}
 use Rattle.call_enter.proofs.Meeting as Entering
+use Rattle.call_day.proofs.Meets.{day-meets}
 use Rattle.call_marks.proofs.Meets.{suspend-meets, resume-meets, wait-meets, apply-lock-meets, revive-meets, cap-info-meets}
 use Rattle.call_purse.proofs.Meeting.{withdraw-meets, deposit-meets}
 use Rattle.call_transfer.proofs.Meets.{read-meets, write-meets}
@@ -31,6 +32,7 @@ use Rattle.kernel_step.specs.Asks.{OwnAsks}
 use Rattle.kernel_step.specs.Run.{stepRun}
 use Rattle.kernel_step.proofs.Asked.{own-asks, fits, write-asked, send-short}
 use Rattle.kernel_step.proofs.Shaping.{shape-kept}
+use Rattle.kernel_step.proofs.Choosing.{run-by}
 
 -- ---- the call's own part
 
@@ -80,5 +82,5 @@ module _ {b l w : List ℕ} {c : Call} {me k : ℕ} (shape : Shape l) (B : Begin
 -- ---- the whole call
 
 pub step-meets : {b l w : List ℕ} {c : Call} → WellFormed b l w → Words c → MeetsRule Shape (view b l w) c (stepRun b l w c)
-unfolding stepRun
-step-meets f words = Entering.step-meets Shape ownRun (plain f) (f .shape) words (λ b w me k B. own-meets (f .shape) B)
+step-meets {b} {l} {w} {c} f words = run-by b l w c (MeetsRule Shape (view b l w) c) (day-meets f c words)
+    (λ p. Entering.step-meets Shape ownRun (plain f) (f .shape) words p (λ b w me k B. own-meets (f .shape) B))

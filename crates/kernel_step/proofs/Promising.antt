@@ -1,4 +1,4 @@
--- The promise of the step from its exact run: what it comes to for any own part, then for the kernel's.
+-- The promise of the step from its exact run: what it comes to for any run that meets the rules, then for the kernel's.
 use Prim.Native.Nat.{ℕ}
 use mathlib.Core.Path.{_≡_, sym, ap, _∙_, subst}
 use mathlib.Core.List.{List}
@@ -16,18 +16,15 @@ use Rattle.call_steps.specs.declared.request.Reply.{Reply}
 use Rattle.call_steps.specs.Request.{answerOf}
 use Rattle.call_steps.specs.Run.{Ran, overlay}
 use Rattle.call_make.specs.Runs.{NewWereFree}
-use Rattle.call_enter.specs.Entry.{OwnPart, stepWith}
 use Rattle.call_enter.proofs.Meeting.{MeetsRule}
 use Rattle.kernel_step.specs.Slices.{Slices, slices, stateOf, callOn}
-use Rattle.kernel_step.specs.Own.{ownRun}
-use Rattle.kernel_step.specs.Run.{stepRun}
 use Rattle.kernel_step.specs.Ends.{scratchAfter, Ends, StepEnds}
 use Rattle.kernel_step.specs.Steps.{RefusalLeaves, front, Steps, Stepped}
 use Rattle.kernel_step.proofs.Meeting.{step-meets}
 use Rattle.kernel_step.proofs.Taking.{blocks-free}
-use Rattle.kernel_step.proofs.Refusing.{OwnLeaves, own-leaves, step-leaves}
+use Rattle.kernel_step.proofs.Refusing.{run-leaves}
 
--- ---- any own part; S is what is kept of the links
+-- ---- any run; S is what is kept of the links
 
 -- the fields of `Steps`, with what makes the store well formed one by one
 pub record Promises (S : List ℕ → Type 0) (c : Call) (r : Reply) (was is : Slices) : Type 0 where
@@ -43,13 +40,12 @@ pub record Promises (S : List ℕ → Type 0) (c : Call) (r : Reply) (was is : S
   pub scratch-is : is .scratch ≡ scratchAfter (op (c .number)) (r .code) (was .scratch)
   pub refused : RefusalLeaves c (r .code) was is
 
-module _ (S : List ℕ → Type 0) (own : OwnPart) (leaves : OwnLeaves own) {c : Call} {r : Reply} {was is : Slices}
-    (m : MeetsRule S (stateOf was) c (stepWith own (was .bytes) (was .links) (was .words) c))
-    (E : Ends c (stepWith own (was .bytes) (was .links) (was .words) c) r was is) where
+module _ (S : List ℕ → Type 0) {c : Call} {r : Reply} {was is : Slices} {x : Ran} (m : MeetsRule S (stateOf was) c x)
+    (left : RefusalLeaves c (x .answer .code) was (slices (x .bytes) (x .links) (x .words) (is .buffer) (is .scratch)))
+    (E : Ends c x r was is) where
   pub promises : Promises S c r was is
   unfolding answerOf
   promises =
-      let x : Ran = stepWith own (was .bytes) (was .links) (was .words) c in
       let T = E .store in
       let bytes-are : front r is ≡ x .answer .bytes = ap (λ (a : Answer). a .bytes) (E .replies .answer) in
       let code-is : r .code ≡ x .answer .code = ap (λ (a : Answer). a .code) (E .replies .answer) in
@@ -73,9 +69,7 @@ module _ (S : List ℕ → Type 0) (own : OwnPart) (leaves : OwnLeaves own) {c :
         refused = subst (RefusalLeaves c (r .code) was)
             (λ d. slices (sym (T .bytes) d) (sym (T .links) d) (sym (T .words) d) (is .buffer) (is .scratch))
             (subst (λ n. RefusalLeaves c n was (slices (x .bytes) (x .links) (x .words) (is .buffer) (is .scratch)))
-            (sym code-is)
-            (step-leaves own leaves was c (m .choice) (is .buffer) (is .scratch)
-            (ap (λ (o : Outcome). o .answer .code) (m .rules))));
+            (sym code-is) left);
       }
 
 -- ---- the kernel's
@@ -97,11 +91,12 @@ steps-of p free = record {
 pub stepped : {q : Request} {text : List ℕ} {r : Reply} {was is : Slices}
     → WellFormed (was .bytes) (was .links) (was .words) → Words (callOn q text was)
     → StepEnds q text r was is → Stepped q text r was is
-unfolding stepRun
 stepped {q} {text} {r} {was} {is} A W E =
     let m = step-meets A W in
+    let left = run-leaves was (callOn q text was) (is .buffer) (is .scratch) (m .choice)
+    (ap (λ (o : Outcome). o .answer .code) (m .rules)) in
     record {
-      rules = steps-of (promises Shape ownRun own-leaves m E) (subst (NewWereFree (was .links)) (sym (E .store .links))
+      rules = steps-of (promises Shape m left E) (subst (NewWereFree (was .links)) (sym (E .store .links))
           (blocks-free (was .bytes) (was .links) (was .words) (callOn q text was) A m));
       exact = E;
     }

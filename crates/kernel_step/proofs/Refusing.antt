@@ -9,15 +9,15 @@ use borrow.Author.Tests.{eqb-true}
 use Rattle.rules.specs.Store.{State}
 use Rattle.rules.specs.Rights.{Op, makeObj, read, write, capInfo, deriveCap, deleteCap, renameObj, withdraw}
 use Rattle.rules.specs.Rights.{deposit, suspend, resume, applyLock, send, receive, wait, revive, unknown}
-use Rattle.rules.specs.Rights.{op, feeOf}
+use Rattle.rules.specs.Rights.{op, feeOf, dayNumber}
 use Rattle.rules.specs.Call.{Call, Choice, code, handsBack, handsOver, tells}
 use Rattle.rules.specs.Code as Code
 use Rattle.rules.specs.Refusals.{first, caller, early, presenting}
-use Rattle.rules.specs.Rule.{paid, rule, isDone}
+use Rattle.rules.specs.Rule.{paid, dayRefuses, rule, isDone}
 use Rattle.rules.proofs.Tests.{by-eq, pick-by}
 use Rattle.rules.proofs.Ready.{early-low, late-high, slotOf}
 use Rattle.rules.proofs.Answers.{is-done}
-use Rattle.rules.proofs.Outcomes.{rule-by}
+use Rattle.rules.proofs.Outcomes.{rule-by, day-not-four}
 use Rattle.layout.specs.Rows.{parentOf}
 use Rattle.layout.specs.View.{view}
 use Rattle.call_steps.specs.Paying.{paidWords}
@@ -34,8 +34,11 @@ use Rattle.call_derive.specs.Runs.{deriveRun, derived}
 use Rattle.call_delete.specs.Runs.{deleteRun}
 use Rattle.call_rename.specs.Runs.{renameRun, renamed}
 use Rattle.kernel_step.specs.Slices.{Slices, slices, Store, stateOf}
+use Rattle.call_day.specs.Runs.{dayRun}
 use Rattle.kernel_step.specs.Own.{ownRun}
+use Rattle.kernel_step.specs.Run.{stepRun}
 use Rattle.kernel_step.specs.Steps.{RefusalLeaves}
+use Rattle.kernel_step.proofs.Choosing.{run-by}
 
 -- the run leaves these slices
 abbrev pub Leaves : List ℕ → List ℕ → List ℕ → Ran → Type 0
@@ -81,20 +84,22 @@ module _ (b l w : List ℕ) where
 -- ---- by the code that the rules answer
 
 -- after the fee a refusal's number is above 4
-late-code : (s : State) (c : Call) (h : Choice) → early s c ≡ 0 → rule s c h .answer .code ≢ 0
+late-code : (s : State) (c : Call) (h : Choice) → c .number ≢ dayNumber → early s c ≡ 0 → rule s c h .answer .code ≢ 0
     → 4 < rule s c h .answer .code
 unfolding code isDone
-late-code s c h z = rule-by s c h (λ r. r .answer .code ≢ 0 → 4 < r .answer .code)
-    (λ nz. absurd (nz z))
-    (λ _ nz _. late-high (paid s c) c (slotOf s c) nz)
-    (λ e _ nz. absurd (nz (eqb-true _ 0 (is-done s c h e))))
+late-code s c h p z = rule-by s c h (λ r. r .answer .code ≢ 0 → 4 < r .answer .code)
+    (λ e. absurd (p e))
+    (λ _ nz. absurd (nz z))
+    (λ _ _ nz _. late-high (paid s c) c (slotOf s c) nz)
+    (λ _ e _ nz. absurd (nz (eqb-true _ 0 (is-done s c h e))))
 
 -- an own part that leaves the slices where it refuses
 abbrev pub OwnLeaves : OwnPart → Type 0
 OwnLeaves own = (b l w : List ℕ) (c : Call) (me k : ℕ) (o : Op) → Refusing b l w (own b l w c me k o)
 
 -- the buffer and the scratch are not spoken of
-module _ (own : OwnPart) (leaves : OwnLeaves own) (was : Slices) (c : Call) (h : Choice) (buffer scratch : List ℕ) where
+module _ (own : OwnPart) (leaves : OwnLeaves own) (was : Slices) (c : Call) (process : c .number ≢ dayNumber) (h : Choice)
+    (buffer scratch : List ℕ) where
   abbrev s : State
   s = stateOf was
 
@@ -112,13 +117,14 @@ module _ (own : OwnPart) (leaves : OwnLeaves own) (was : Slices) (c : Call) (h :
   paid-left : (x : Ran) → early s c ≡ 0 → Refusing (was .bytes) (was .links) w′ x → Left x
   paid-left x e stays q =
       let high : x .answer .code ≢ 0 → 4 < x .answer .code =
-      λ nz. subst (λ n. 4 < n) q (late-code s c h e (λ z. nz (sym q ∙ z))) in
+      λ nz. subst (λ n. 4 < n) q (late-code s c h process e (λ z. nz (sym q ∙ z))) in
       record {
         nothing = λ some low. absurd (omega (arith, high (λ z. omega arith)));
         marks = λ four. absurd (omega (arith, high (λ z. omega arith)));
-        fee = λ many.
+        fee = λ _ many.
             let same = stays (λ z. omega arith) in
             record { bytes = same .bytes; links = same .links; words = same .words };
+        host = λ e. absurd (process e);
       }
 
   pub step-leaves : Left (stepWith own (was .bytes) (was .links) (was .words) c)
@@ -127,15 +133,49 @@ module _ (own : OwnPart) (leaves : OwnLeaves own) (was : Slices) (c : Call) (h :
       (λ nz n4 _. record {
         nothing = λ _ _. record { bytes = refl; links = refl; words = refl };
         marks = λ e. absurd (n4 e);
-        fee = λ high. absurd (omega (arith, early-low s c nz));
+        fee = λ _ high. absurd (omega (arith, early-low s c nz));
+        host = λ e. absurd (process e);
       })
       (λ e _. record {
         nothing = λ _ low. absurd (omega arith);
         marks = λ _. record { bytes = refl; links = refl; words = refl };
-        fee = λ high. absurd (omega arith);
+        fee = λ _ high. absurd (omega arith);
+        host = λ e. absurd (process e);
       })
       (λ e nz.
       let n : ℕ = first (presenting (view (was .bytes) (was .links) w′) k (op (c .number))) in
       paid-left (over n (was .bytes) (was .links) w′) e (λ _. over-leaves (was .bytes) (was .links) w′ n))
       (λ e z. paid-left (own (was .bytes) (was .links) w′ c (caller s c) k (op (c .number))) e
       (leaves (was .bytes) (was .links) w′ c (caller s c) k (op (c .number))))
+
+-- ---- call 17, and any call
+
+module _ (was : Slices) (c : Call) (buffer scratch : List ℕ) where
+  abbrev RunLeaves : Ran → Type 0
+  RunLeaves x = RefusalLeaves c (x .answer .code) was (slices (x .bytes) (x .links) (x .words) buffer scratch)
+
+  day-leaves : c .number ≡ dayNumber → RunLeaves (dayRun (was .bytes) (was .links) (was .words) (c .day))
+  unfolding dayRun over code
+  day-leaves host =
+      let s : State = stateOf was in
+      let n : ℕ = first (dayRefuses s (c .day)) in
+      by-eq n Code.done
+      (λ e. subst RunLeaves (goes-on (was .bytes) (was .links) (was .words) _ e) (record {
+        nothing = λ some low. absurd (omega arith);
+        marks = λ four. absurd (omega arith);
+        fee = λ p. absurd (p host);
+        host = λ _ high. absurd (omega arith);
+      }))
+      (λ nz. subst RunLeaves (stopped (was .bytes) (was .links) (was .words) _ n refl nz) (record {
+        nothing = λ _ _. record { bytes = refl; links = refl; words = refl };
+        marks = λ four. absurd (day-not-four s c four);
+        fee = λ p. absurd (p host);
+        host = λ _ _. record { bytes = refl; links = refl; words = refl };
+      }))
+
+  pub run-leaves : (h : Choice) → rule (stateOf was) c h .answer .code ≡ stepRun (was .bytes) (was .links) (was .words) c .answer .code
+      → RunLeaves (stepRun (was .bytes) (was .links) (was .words) c)
+  run-leaves h = run-by (was .bytes) (was .links) (was .words) c
+      (λ x. rule (stateOf was) c h .answer .code ≡ x .answer .code → RunLeaves x)
+      (λ e _. day-leaves e)
+      (λ p. step-leaves ownRun own-leaves was c p h buffer scratch)

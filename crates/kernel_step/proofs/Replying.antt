@@ -5,9 +5,10 @@ use mathlib.Core.Logic.{_≢_}
 use mathlib.Core.Bool.{true, false}
 use mathlib.Core.List.{List, []}
 use lib.ListN.{length, take}
-use Rattle.rules.specs.Rights.{Op, op}
+use Rattle.rules.specs.Rights.{Op, op, asked, dayNumber}
 use Rattle.rules.specs.Call.{Call, Answer, code}
 use Rattle.rules.proofs.Tests.{by-bool, pick-yes, pick-not}
+use Rattle.rules.proofs.Outcomes.{host-op}
 use Rattle.call_steps.specs.declared.request.Request.{Request}
 use Rattle.call_steps.specs.declared.request.Reply.{Reply}
 use Rattle.call_steps.specs.Request.{callOf, answerOf}
@@ -71,6 +72,20 @@ ends-refused {c} {x} {n} {r} {was} {is} nz R e same kept = subst (λ y. Ends c y
   store = record { bytes = refl; links = refl; words = refl };
   scratch = kept ∙ scratch-refused (op (c .number)) n (was .scratch) nz;
 })
+
+-- and so does a reply with no bytes, of a call that does not clear the scratch
+pub ends-replies : {c : Call} {x : Ran} {r : Reply} {was is : Slices} → clears (op (c .number)) ≡ false
+    → Replies r (is .bytes) (is .links) (is .words) x → is .buffer ≡ was .buffer → is .scratch ≡ was .scratch → Ends c x r was is
+ends-replies {c} {x} {r} {was} {is} free R same kept = record {
+  replies = subst (λ d. Answers (x .answer) r d (is .buffer)) same (replied R (is .buffer));
+  store = record { bytes = R .bytes; links = R .links; words = R .words };
+  scratch = kept ∙ scratch-kept (op (c .number)) (x .answer .code) (was .scratch) free;
+}
+
+-- call 17 is such a call
+pub day-keeps : (n : ℕ) → n ≡ dayNumber → clears (op n) ≡ false
+unfolding clears asked
+day-keeps n e = ap clears (host-op n e)
 
 -- what ends as the run x ends as an equal one
 pub ends-same : {c : Call} {x y : Ran} {r : Reply} {was is : Slices} → Ends c x r was is → x ≡ y → Ends c y r was is

@@ -10,7 +10,7 @@ use Rattle.rules.specs.Rights.{Op, makeObj, read, write, capInfo, deriveCap, de
 use Rattle.rules.specs.Rights.{deposit, suspend, resume, applyLock, send, receive, wait, revive, unknown, op}
 use Rattle.rules.specs.Call.{Call, Choice, Outcome, done, handsBack, handsOver, tells}
 use Rattle.rules.specs.Refusals.{caller, early, inRange}
-use Rattle.rules.specs.Update.{withHouse, withCash, withMarks, withCap, withMoney, withBox, withLock, withBytes}
+use Rattle.rules.specs.Update.{withHouse, withDay, withCash, withMarks, withCap, withMoney, withBox, withLock, withBytes}
 use Rattle.rules.specs.Changes.{earn, spend, toHouse, setSuspended, setWaiting, setTerminated, onClimb, newCap}
 use Rattle.rules.specs.Changes.{endWhere, newObject, endObject}
 use Rattle.rules.specs.Calls.{readDoes, writeDoes, capInfoDoes, deriveCapDoes, deleted, emptied, renameObjDoes}
@@ -19,7 +19,7 @@ use Rattle.rules.specs.Calls.{reviveDoes, does}
 use Rattle.rules.specs.Rule.{paid, rule}
 use Rattle.rules.proofs.Slots.{at-by}
 use Rattle.rules.proofs.Ready.{slotOf}
-use Rattle.rules.proofs.Outcomes.{stopped-by, rule-by}
+use Rattle.rules.proofs.Outcomes.{host-not, stopped-by, rule-by, day-by}
 use Rattle.rules.proofs.Keeping.{wait-by}
 use Rattle.rules.proofs.Deleting.{delete-by}
 use Rattle.layout.specs.Rows.{masterOf}
@@ -38,6 +38,7 @@ use Rattle.call_make.proofs.Meets.{arguments-of, make-free}
 use Rattle.kernel_step.specs.Own.{ownRun}
 use Rattle.kernel_step.specs.Run.{stepRun}
 use Rattle.kernel_step.proofs.Asked.{own-asks}
+use Rattle.kernel_step.proofs.Choosing.{run-by}
 
 -- ---- in the rules only make_obj makes an object
 
@@ -83,13 +84,16 @@ module _ (s : State) (c : Call) (me k : ℕ) (h : Choice) (q : ℕ) (z : s .obje
 
 rule-new : (s : State) (c : Call) (h : Choice) (q : ℕ) → s .object q .live ≡ false
     → rule s c h .after .object q .live ≡ true → op (c .number) ≡ makeObj
-unfolding paid toHouse spend withCash withHouse setTerminated withMarks
+unfolding paid toHouse spend withCash withHouse setTerminated withMarks done withDay
 rule-new s c h q z = rule-by s c h (λ r. r .after .object q .live ≡ true → op (c .number) ≡ makeObj)
-    (λ n. stopped-by s c (λ (t : State). t .object q .live ≡ true → op (c .number) ≡ makeObj)
+    (λ _. day-by s c (λ r. r .after .object q .live ≡ true → op (c .number) ≡ makeObj)
+    (λ _ a. absurd (false≢true (sym z ∙ a)))
+    (λ _ a. absurd (false≢true (sym z ∙ a))))
+    (λ _ n. stopped-by s c (λ (t : State). t .object q .live ≡ true → op (c .number) ≡ makeObj)
     (λ _ a. absurd (false≢true (sym z ∙ a)))
     (λ a. absurd (false≢true (sym z ∙ a))))
-    (λ e n a. absurd (false≢true (sym z ∙ a)))
-    (λ e f a. does-new (paid s c) c (caller s c) (slotOf s c) h q z (op (c .number)) a)
+    (λ _ e n a. absurd (false≢true (sym z ∙ a)))
+    (λ _ e f a. does-new (paid s c) c (caller s c) (slotOf s c) h q z (op (c .number)) a)
 
 -- ---- the run of make_obj takes free blocks
 
@@ -108,14 +112,13 @@ module _ (b l w : List ℕ) (c : Call) (W : WellFormed b l w) where
       (make-free F c me k (arguments-of c e r))
 
   step-free : Free (stepRun b l w c)
-  unfolding stepRun
-  step-free = step-by ownRun l c b w Free
+  step-free = run-by b l w c Free (λ e m. absurd (host-not (c .number) e m refl)) (λ _. step-by ownRun l c b w Free
       (λ nz n4. stays (early (view b l w) c) b w)
       (λ e. stays Code.cannotPay (terminatedBytes b (caller (view b l w) c)) w)
       (λ e nz. stays _ b _)
       (λ e f.
       let B = begins-paid (plain W) c e f in
-      own-free _ (own-asks (W .shape) B .late .formed) (B .range) _ _)
+      own-free _ (own-asks (W .shape) B .late .formed) (B .range) _ _))
 
   pub blocks-free : MeetsRule Shape (view b l w) c (stepRun b l w c) → NewWereFree l (stepRun b l w c .links)
   blocks-free m q z nz =

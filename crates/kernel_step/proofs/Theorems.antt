@@ -2,16 +2,20 @@
 use Prim.Native.Nat.{ℕ, _≤_}
 use mathlib.Core.Path.{_≡_, refl, sym, ap, _∙_}
 use mathlib.Core.List.{List}
+use mathlib.Core.Bool.{true, false}
+use lib.Dec.{eqb}
 use borrow.Author.Tests.{le-leb}
 use Rattle.rules.specs.Limit as Limit
 use Rattle.rules.specs.Rights.{Op, makeObj, read, write, capInfo, deriveCap, deleteCap, renameObj, withdraw}
 use Rattle.rules.specs.Rights.{deposit, suspend, resume, applyLock, send, receive, wait, revive, unknown, op}
+use Rattle.rules.specs.Rights.{dayNumber}
 use Rattle.rules.specs.Call.{Call}
 use Rattle.rules.specs.Refusals.{bufferFits, scratchFits, argumentsFit, inRange, caller, early}
 use Rattle.call_steps.specs.declared.request.Request.{Request}
 use Rattle.call_steps.specs.Request.{callOf}
 use Rattle.call_steps.specs.Run.{settled}
 use Rattle.call_enter.specs.Entry.{Entry, entered, entry, goesOn, stepWith}
+use Rattle.call_day.specs.Runs.{dayRun}
 use Rattle.kernel_step.specs.Own.{ownRun}
 use Rattle.kernel_step.specs.Run.{stepRun}
 use Rattle.kernel_step.specs.Theorems.{SameRun}
@@ -59,12 +63,16 @@ module _ (q : Request) (text : List ℕ) (buffer n m : ℕ) (low : Limit.scratch
   unfolding entry entered early caller callOf
   entry-is b l w = rw range-is
 
-  run-is : (b l w : List ℕ) → stepRun b l w c ≡ stepRun b l w c′
-  unfolding stepRun stepWith goesOn callOf
-  run-is b l w =
+  with-is : (b l w : List ℕ) → stepWith ownRun b l w c ≡ stepWith ownRun b l w c′
+  unfolding stepWith goesOn callOf
+  with-is b l w =
       let e : Entry = entry b l w c in
       ap (settled (e .code) (e .bytes) l (e .words)) (alike (op (q .number)) .1 (e .bytes) l (e .words) (e .me) (e .slot))
       ∙ ap (goesOn ownRun l c′) (entry-is b l w)
+
+  run-is : (b l w : List ℕ) → stepRun b l w c ≡ stepRun b l w c′
+  unfolding stepRun callOf
+  run-is b l w = ap (λ x. elim (eqb (q .number) dayNumber) [ true ↦ dayRun b l w (q .day) | false ↦ x ]) (with-is b l w)
 
 pub same-run : SameRun
 unfolding SameRun

@@ -15,7 +15,7 @@ pub record LateAsks (b l w : List ℕ) (c : Call) (me : ℕ) : Type 0 where
   pub caller : Process b l me
   pub range : inRange c ≡ true
 
--- after 5 and 6: slot k is that of the capability presented
+-- after 5, 19 and 6: slot k is that of the capability presented
 pub record OwnAsks (b l w : List ℕ) (c : Call) (me k : ℕ) : Type 0 where
   pub late : LateAsks b l w c me
   pub held : presents (op (c .number)) ≡ true → Held l k

@@ -1,9 +1,10 @@
 -- The promise of a call on a well-formed store: what it answers and leaves is what the rules give.
 use Prim.Native.Nat.{ℕ, _≤_, _<_}
 use mathlib.Core.Path.{_≡_}
+use mathlib.Core.Logic.{_≢_}
 use mathlib.Core.List.{List}
 use lib.ListN.{length, take}
-use Rattle.rules.specs.Rights.{op, feeOf}
+use Rattle.rules.specs.Rights.{op, feeOf, dayNumber}
 use Rattle.rules.specs.Call.{Call, Choice}
 use Rattle.rules.specs.Code as Code
 use Rattle.rules.specs.Refusals.{caller}
@@ -26,8 +27,10 @@ pub record RefusalLeaves (c : Call) (code : ℕ) (was is : Slices) : Type 0 wher
   -- 4 marks the caller terminated
   pub marks : code ≡ Code.cannotPay → Store is (terminatedBytes (was .bytes) (caller (stateOf was) c)) (was .links) (was .words)
   -- later ones move only the fee
-  pub fee : Code.cannotPay < code
+  pub fee : c .number ≢ dayNumber → Code.cannotPay < code
       → Store is (was .bytes) (was .links) (paidWords (was .words) (caller (stateOf was) c) (feeOf (c .number)))
+  -- call 17 has none: its refusals change nothing
+  pub host : c .number ≡ dayNumber → Code.done < code → Store is (was .bytes) (was .links) (was .words)
 
 -- the bytes at the buffer's front that the reply counts
 abbrev pub front : Reply → Slices → List ℕ

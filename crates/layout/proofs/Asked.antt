@@ -7,7 +7,9 @@ use mathlib.Core.List.{List}
 use lib.Bits.{bitAnd}
 use Rattle.rules.specs.Store.{Object}
 use Rattle.rules.specs.Valid.{Lives}
+use Rattle.rules.specs.Limit as Limit
 use Rattle.layout.specs.Rows.{volumeOf, flagOf, masterOf, serialOf, sizeOf, ownerOf, parentOf, rightsOf}
+use Rattle.layout.specs.Rows.{lastDayOf}
 use Rattle.layout.specs.Rows.{p1Of, startOf, endOf}
 use Rattle.layout.specs.View.{view}
 use Rattle.layout.specs.WellFormed.{Plain}
@@ -49,7 +51,8 @@ module _ (b l w : List ℕ) (g : Plain b l w) where
   -- ---- capabilities
 
   -- the one with no parent is the master of its object
-  whole : (i : ℕ) → ownerOf l i ≢ 0 → parentOf l i ≡ 0 → (startOf w i ≡ 0) × (endOf w i ≡ sizeOf l (ownerOf l i))
+  whole : (i : ℕ) → ownerOf l i ≢ 0 → parentOf l i ≡ 0
+      → (startOf w i ≡ 0) × (endOf w i ≡ sizeOf l (ownerOf l i)) × (lastDayOf l i ≡ Limit.day)
   whole i alive z =
       let k = g .valid .formed .caps in
       let shown = cap-shown b l w i alive in
@@ -60,12 +63,13 @@ module _ (b l w : List ℕ) (g : Plain b l w) where
       let e = k .masters (m .0) i lives shown same (m .1 .parent) (parent-is b l w i alive ∙ z) in
       let is = rw (e, cap-here b l w i alive) at (m .1) in
       let object = object-here b l w (ownerOf l i) (object-lives b l w (ownerOf l i) owned) in
-      (is .start, is .end ∙ ap (λ (x : Object). x .size) object)
+      (is .start, is .end ∙ ap (λ (x : Object). x .size) object, is .lastDay)
 
   within : (i : ℕ) → ownerOf l i ≢ 0 → parentOf l i ≢ 0
       → (bitAnd (rightsOf l i) (rightsOf l (parentOf l i)) ≡ rightsOf l i)
       × (startOf w (parentOf l i) ≤ startOf w i)
       × (endOf w i ≤ endOf w (parentOf l i))
+      × (lastDayOf l i ≤ lastDayOf l (parentOf l i))
   within i alive above =
       let k = g .valid .formed .caps in
       let shown = cap-shown b l w i alive in
@@ -73,7 +77,7 @@ module _ (b l w : List ℕ) (g : Plain b l w) where
       let nz : view b l w .cap i .parent ≢ 0 = λ e. above (sym is ∙ e) in
       let lives = cap-lives b l w (parentOf l i) (rw is at (k .parent i shown nz)) in
       let here = rw (is, cap-here b l w i alive, cap-here b l w (parentOf l i) lives) at (k .within i shown nz) in
-      (here .rights, here .window .start, here .window .end)
+      (here .rights, here .window .start, here .window .end, here .lastDay)
 
   cap-fits : (i : ℕ) → ownerOf l i ≢ 0 → CapFits l w i
   cap-fits i alive =

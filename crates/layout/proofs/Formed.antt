@@ -11,6 +11,7 @@ use lib.ListN.{length}
 use Rattle.rules.specs.Store.{Name, noObject, noLockword}
 use Rattle.rules.specs.Valid.{LiveObject, Objects, Lives, LiveCap, ChildIn, Climbs, top, step, Caps, IsMaster}
 use Rattle.rules.specs.Valid.{LockwordFits, BoxFits, Valid}
+use Rattle.rules.specs.Limit as Limit
 use Rattle.layout.specs.Layout as Layout
 use Rattle.layout.specs.Rows.{flagOf, countOf, lengthOf, textIn, dataIn, sumOf}
 use Rattle.layout.specs.Rows.{masterOf, sizeOf, firstBlockOf, ownerOf, parentOf, nextBlockOf}
@@ -111,6 +112,7 @@ module _ (b l w : List ℕ) (t : Typed b l w) (z : Sized b l w) (shape : Shape l
         object = sym (placed .parent-owner above);
         rights = fits .0;
         window = record { start = fits .1; end = fits .2 };
+        lastDay = fits .3;
       })
 
   passwords : (i j : ℕ) → Lives (view b l w .cap) i → Lives (view b l w .cap) j
@@ -158,6 +160,7 @@ module _ (b l w : List ℕ) (t : Typed b l w) (z : Sized b l w) (shape : Shape l
           parent = placed .master-parent;
           start = whole .0;
           end = rw (placed .master-owner) at (whole .1);
+          lastDay = whole .2;
         }),
       )
 
@@ -210,6 +213,11 @@ module _ (b l w : List ℕ) (t : Typed b l w) (z : Sized b l w) (shape : Shape l
       go (yes e) = rw (money-none b l w i e) (omega arith)
       go (no alive) = rw (money-here b l w i alive) (field-le 4294967295 512 Layout.MONEY w i (t .words))
 
+  -- any 16-bit number
+  day-valid : view b l w .day ≤ Limit.day
+  unfolding view
+  day-valid = t .links Layout.DAY
+
   -- ---- the whole
 
   valid : Valid (view b l w)
@@ -229,6 +237,7 @@ module _ (b l w : List ℕ) (t : Typed b l w) (z : Sized b l w) (shape : Shape l
       no-money = λ i e. money-none b l w i (cap-free b l w i e);
     };
     total = f .total;
+    day = day-valid;
   }
 
   cells : Cells b l

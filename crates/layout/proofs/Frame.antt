@@ -18,7 +18,7 @@ use Rattle.layout.specs.Layout as Layout
 use Rattle.layout.specs.Rows.{volumeOf, flagOf, suspendedOf, waitingOf, terminatedOf, countOf, lengthOf}
 use Rattle.layout.specs.Rows.{textIn, dataIn}
 use Rattle.layout.specs.Rows.{masterOf, serialOf, sizeOf, firstBlockOf, nextBlockOf}
-use Rattle.layout.specs.Rows.{ownerOf, parentOf, rightsOf}
+use Rattle.layout.specs.Rows.{ownerOf, parentOf, rightsOf, lastDayOf}
 use Rattle.layout.specs.Rows.{cashOf, lock1Of, lock2Of, sumOf, p1Of, p2Of, moneyOf, startOf, endOf}
 use Rattle.layout.specs.View.{isSet, isProcess, onlyWhere, objects, gather, bytes, locks, cash, marks}
 use Rattle.layout.specs.View.{messages, boxes, caps, moneywords, view}
@@ -27,10 +27,11 @@ use Rattle.layout.proofs.Counts.{one-same}
 use Rattle.layout.proofs.Shown.{bytes-here, bytes-none}
 
 -- a state is its parts
-pub state-is : (s r : State) → s .house ≡ r .house → s .object ≡ r .object → s .bytes ≡ r .bytes → s .lock ≡ r .lock
+pub state-is : (s r : State) → s .house ≡ r .house → s .day ≡ r .day → s .object ≡ r .object → s .bytes ≡ r .bytes → s .lock ≡ r .lock
     → s .cash ≡ r .cash → s .marks ≡ r .marks → s .box ≡ r .box → s .cap ≡ r .cap → s .money ≡ r .money → s ≡ r
-state-is s r h o y l c m x p w = λ k. record {
+state-is s r h d o y l c m x p w = λ k. record {
   house = h k;
+  day = d k;
   object = o k;
   bytes = y k;
   lock = l k;
@@ -85,6 +86,10 @@ module _ (b l w b′ l′ w′ : List ℕ) where
   unfolding view
   house-same e = e
 
+  pub day-same : getD l′ Layout.DAY 0 ≡ getD l Layout.DAY 0 → view b′ l′ w′ .day ≡ view b l w .day
+  unfolding view
+  day-same e = e
+
   pub object-same : masterOf l′ ≡ masterOf l → volumeOf b′ ≡ volumeOf b → serialOf l′ ≡ serialOf l
       → sizeOf l′ ≡ sizeOf l → flagOf b′ ≡ flagOf b → view b′ l′ w′ .object ≡ view b l w .object
   unfolding view
@@ -116,10 +121,10 @@ module _ (b l w b′ l′ w′ : List ℕ) where
   box-same m f c n s t = λ k. boxes (m k) (f k) (c k) (n k) (s k) (t k)
 
   pub cap-same : ownerOf l′ ≡ ownerOf l → parentOf l′ ≡ parentOf l → p1Of w′ ≡ p1Of w → p2Of w′ ≡ p2Of w
-      → startOf w′ ≡ startOf w → endOf w′ ≡ endOf w → rightsOf l′ ≡ rightsOf l
+      → startOf w′ ≡ startOf w → endOf w′ ≡ endOf w → rightsOf l′ ≡ rightsOf l → lastDayOf l′ ≡ lastDayOf l
       → view b′ l′ w′ .cap ≡ view b l w .cap
   unfolding view
-  cap-same o p x y s e r = λ k. caps (o k) (p k) (x k) (y k) (s k) (e k) (r k)
+  cap-same o p x y s e r d = λ k. caps (o k) (p k) (x k) (y k) (s k) (e k) (r k) (d k)
 
   pub money-same : ownerOf l′ ≡ ownerOf l → moneyOf w′ ≡ moneyOf w → view b′ l′ w′ .money ≡ view b l w .money
   unfolding view
@@ -140,14 +145,16 @@ module _ (b l w b′ l′ w′ : List ℕ) where
 
   pub cap-same-at : (i : ℕ) → ownerOf l′ i ≡ ownerOf l i → parentOf l′ i ≡ parentOf l i → p1Of w′ i ≡ p1Of w i
       → p2Of w′ i ≡ p2Of w i → startOf w′ i ≡ startOf w i → endOf w′ i ≡ endOf w i → rightsOf l′ i ≡ rightsOf l i
+      → lastDayOf l′ i ≡ lastDayOf l i
       → view b′ l′ w′ .cap i ≡ view b l w .cap i
   unfolding view caps
-  cap-same-at i o p x y s e r = where-same _ _ noCap _ _ i (ap isSet o) (λ k. record {
+  cap-same-at i o p x y s e r d = where-same _ _ noCap _ _ i (ap isSet o) (λ k. record {
     object = o k;
     parent = p k;
     password = record { p1 = x k; p2 = y k };
     window = record { start = s k; end = e k };
     rights = r k;
+    lastDay = d k;
   })
 
   pub money-same-at : (i : ℕ) → ownerOf l′ i ≡ ownerOf l i → moneyOf w′ i ≡ moneyOf w i

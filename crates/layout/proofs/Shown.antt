@@ -12,7 +12,7 @@ use Rattle.rules.specs.Valid.{Lives}
 use Rattle.layout.specs.Rows.{volumeOf, flagOf, suspendedOf, waitingOf, terminatedOf, countOf, lengthOf}
 use Rattle.layout.specs.Rows.{textIn, dataIn}
 use Rattle.layout.specs.Rows.{masterOf, serialOf, sizeOf, firstBlockOf, nextBlockOf}
-use Rattle.layout.specs.Rows.{ownerOf, parentOf, rightsOf}
+use Rattle.layout.specs.Rows.{ownerOf, parentOf, rightsOf, lastDayOf}
 use Rattle.layout.specs.Rows.{cashOf, lock1Of, lock2Of, sumOf, p1Of, p2Of, moneyOf, startOf, endOf}
 use Rattle.layout.specs.View.{isSet, isProcess, onlyWhere, objects, gather, bytes, locks, cash, marks}
 use Rattle.layout.specs.View.{messages, boxes, caps, moneywords, view}
@@ -171,6 +171,7 @@ module _ (b l w : List ℕ) (i : ℕ) where
     password = record { p1 = p1Of w i; p2 = p2Of w i };
     window = record { start = startOf w i; end = endOf w i };
     rights = rightsOf l i;
+    lastDay = lastDayOf l i;
   }
   unfolding view caps
   cap-here h = where-yes (λ i. isSet (ownerOf l i)) noCap _ i (set-yes (ownerOf l i) h)

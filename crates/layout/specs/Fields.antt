@@ -7,7 +7,7 @@ use lib.Bits.{bitAnd}
 use Rattle.rules.specs.Limit as Limit
 use Rattle.rules.specs.Store.{moneyIn}
 use Rattle.layout.specs.Rows.{volumeOf, flagOf, suspendedOf, waitingOf, terminatedOf, countOf, lengthOf}
-use Rattle.layout.specs.Rows.{masterOf, serialOf, sizeOf, ownerOf, parentOf, rightsOf}
+use Rattle.layout.specs.Rows.{masterOf, serialOf, sizeOf, ownerOf, parentOf, rightsOf, lastDayOf}
 use Rattle.layout.specs.Rows.{lock1Of, p1Of, startOf, endOf}
 use Rattle.layout.specs.View.{view}
 
@@ -25,15 +25,17 @@ pub record ObjectFits (b l w : List ℕ) (o : ℕ) : Type 0 where
   pub flag : flagOf b o ≤ 1
   pub process : flagOf b o ≢ 0 → ProcessFits b w o
 
--- the master of an object has its whole window; a child's rights and window lie in its parent's
+-- the master of an object has its whole window and the last day 65,535; a child's rights and window lie in its parent's, and its
+-- last day is not after the parent's
 pub record CapFits (l w : List ℕ) (i : ℕ) : Type 0 where
   pub rights : rightsOf l i ≤ Limit.rights
   pub ordered : startOf w i ≤ endOf w i
-  pub whole : parentOf l i ≡ 0 → (startOf w i ≡ 0) × (endOf w i ≡ sizeOf l (ownerOf l i))
+  pub whole : parentOf l i ≡ 0 → (startOf w i ≡ 0) × (endOf w i ≡ sizeOf l (ownerOf l i)) × (lastDayOf l i ≡ Limit.day)
   pub within : parentOf l i ≢ 0
       → (bitAnd (rightsOf l i) (rightsOf l (parentOf l i)) ≡ rightsOf l i)
       × (startOf w (parentOf l i) ≤ startOf w i)
       × (endOf w i ≤ endOf w (parentOf l i))
+      × (lastDayOf l i ≤ lastDayOf l (parentOf l i))
 
 abbrev pub ObjectsFit : List ℕ → List ℕ → List ℕ → Type 0
 ObjectsFit b l w = (o : ℕ) → masterOf l o ≢ 0 → ObjectFits b l w o

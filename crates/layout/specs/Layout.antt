@@ -111,9 +111,17 @@ RIGHTS = 2894
 abbrev pub «NEXT_BLOCK» : ℕ
 «NEXT_BLOCK» = 3407
 
+-- 02, CR 9: a capability's last day
+abbrev pub «LAST_DAY» : ℕ
+«LAST_DAY» = 3920
+
+-- the store's day
+abbrev pub DAY : ℕ
+DAY = 4433
+
 -- the length of the slice
 abbrev pub LINKS : ℕ
-LINKS = 3920
+LINKS = 4434
 
 -- ---- the 32-bit words
 

@@ -82,6 +82,9 @@ rightsOf l = field Limit.caps Layout.RIGHTS l
 abbrev pub nextBlockOf : List ℕ → ℕ → ℕ
 nextBlockOf l = field Limit.blocks Layout.«NEXT_BLOCK» l
 
+abbrev pub lastDayOf : List ℕ → ℕ → ℕ
+lastDayOf l = field Limit.caps Layout.«LAST_DAY» l
+
 -- ---- the words
 
 abbrev pub cashOf : List ℕ → ℕ → ℕ

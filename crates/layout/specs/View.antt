@@ -11,6 +11,7 @@ use Rattle.layout.specs.Layout as Layout
 use Rattle.layout.specs.Rows.{volumeOf, flagOf, suspendedOf, waitingOf, terminatedOf, countOf, lengthOf}
 use Rattle.layout.specs.Rows.{textIn, dataIn}
 use Rattle.layout.specs.Rows.{masterOf, serialOf, sizeOf, firstBlockOf, ownerOf, parentOf, rightsOf, nextBlockOf}
+use Rattle.layout.specs.Rows.{lastDayOf}
 use Rattle.layout.specs.Rows.{cashOf, lock1Of, lock2Of, sumOf, p1Of, p2Of, moneyOf, startOf, endOf}
 
 -- not 0: the flag or mark is set, the link names a record
@@ -72,13 +73,14 @@ boxes master flag count length sum text = onlyWhere (isProcess master flag) []
 
 -- ---- capabilities
 
-unfoldable pub caps : (owner parent p1 p2 start end rights : ℕ → ℕ) → ℕ → Cap
-caps owner parent p1 p2 start end rights = onlyWhere (λ i. isSet (owner i)) noCap (λ i. record {
+unfoldable pub caps : (owner parent p1 p2 start end rights lastDay : ℕ → ℕ) → ℕ → Cap
+caps owner parent p1 p2 start end rights lastDay = onlyWhere (λ i. isSet (owner i)) noCap (λ i. record {
   object = owner i;
   parent = parent i;
   password = record { p1 = p1 i; p2 = p2 i };
   window = record { start = start i; end = end i };
   rights = rights i;
+  lastDay = lastDay i;
 })
 
 unfoldable pub moneywords : (owner amount : ℕ → ℕ) → ℕ → ℕ
@@ -89,12 +91,13 @@ moneywords owner amount = onlyWhere (λ i. isSet (owner i)) 0 amount
 unfoldable pub view : List ℕ → List ℕ → List ℕ → State
 view b l w = record {
   house = getD w Layout.HOUSE 0;
+  day = getD l Layout.DAY 0;
   object = objects (masterOf l) (volumeOf b) (serialOf l) (sizeOf l) (flagOf b);
   bytes = bytes (masterOf l) (sizeOf l) (firstBlockOf l) (nextBlockOf l) (dataIn b);
   lock = locks (masterOf l) (flagOf b) (lock1Of w) (lock2Of w);
   cash = cash (masterOf l) (flagOf b) (cashOf w);
   marks = marks (masterOf l) (flagOf b) (suspendedOf b) (waitingOf b) (terminatedOf b);
   box = boxes (masterOf l) (flagOf b) (countOf b) (lengthOf b) (sumOf w) (textIn b);
-  cap = caps (ownerOf l) (parentOf l) (p1Of w) (p2Of w) (startOf w) (endOf w) (rightsOf l);
+  cap = caps (ownerOf l) (parentOf l) (p1Of w) (p2Of w) (startOf w) (endOf w) (rightsOf l) (lastDayOf l);
   money = moneywords (ownerOf l) (moneyOf w);
 }

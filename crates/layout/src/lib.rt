@@ -70,7 +70,11 @@ pub const RIGHTS: usize = 2894;
 
 pub const NEXT_BLOCK: usize = 3407;
 
-pub const LINKS: usize = 3920;
+pub const LAST_DAY: usize = 3920;
+
+pub const DAY: usize = 4433;
+
+pub const LINKS: usize = 4434;
 
 // The 32-bit words.
 pub const HOUSE: usize = 0;

@@ -8,19 +8,23 @@ use lib.Dec.{eqb}
 use lib.ListN.{length, take, drop}
 use lib.Seq.{take-at, take-length}
 use borrow.Author.Tests.{eqb-true}
+use Rattle.rules.specs.Code as Code
 use Rattle.rules.specs.Limit as Limit
 use Rattle.rules.specs.Rights.{op, write}
 use Rattle.rules.specs.Refusals.{transferFits, argumentsFit, inRange}
 use Rattle.rules.proofs.Tests.{by-bool, all2}
+use Rattle.rules.proofs.Outcomes.{host-not}
 use Rattle.call_steps.specs.declared.request.Request.{Request}
 use Rattle.call_steps.specs.declared.request.Reply.{Reply}
 use Rattle.call_steps.specs.Request.{callOf}
+use Rattle.call_steps.specs.Run.{over}
 use Rattle.call_enter.proofs.Stepping.{two-run}
 use Rattle.kernel_step.specs.Slices.{Slices, slices, callOn}
 use Rattle.kernel_step.specs.Own.{ownRun}
 use Rattle.kernel_step.specs.Run.{stepRun}
 use Rattle.kernel_step.specs.Ends.{Ends, StepEnds}
 use Rattle.kernel_step.proofs.Asked.{fits, short}
+use Rattle.kernel_step.proofs.Choosing.{step-process}
 use Rattle.kernel_step.proofs.Promising.{stepped}
 use Rattle.kernel_call.specs.Calls.{Calls}
 use Rattle.kernel_call.proofs.Calling.{no-cells}
@@ -39,12 +43,17 @@ module _ (q : Request) (is-write : op (q .number) ≡ write) (was : Slices) wher
       absurd (omega (arith, short (c .range) (f .0), eqb-true (length text) (c .range .end - c .range .start) (f .1))))
       (λ e. e)
 
+  refused-run : (text : List ℕ) → inRange (callOn q text was) ≡ false → over Code.outOfRange (was .bytes) (was .links) (was .words)
+      ≡ stepRun (was .bytes) (was .links) (was .words) (callOn q text was)
+  unfolding callOf
+  refused-run text h =
+      two-run ownRun (was .links) (callOn q text was) (was .bytes) (was .words) h
+      ∙ sym (step-process (was .bytes) (was .links) (was .words) (callOn q text was) (λ e. host-not (q .number) e is-write refl))
+
   module _ (text other : List ℕ) (long : Limit.transfer < length text) (size : length other ≡ length text) where
     run-same : stepRun (was .bytes) (was .links) (was .words) (callOn q text was)
         ≡ stepRun (was .bytes) (was .links) (was .words) (callOn q other was)
-    unfolding stepRun
-    run-same = sym (two-run ownRun (was .links) (callOn q text was) (was .bytes) (was .words) (out text long))
-        ∙ two-run ownRun (was .links) (callOn q other was) (was .bytes) (was .words) (out other (omega (arith, size, long)))
+    run-same = sym (refused-run text (out text long)) ∙ refused-run other (out other (omega (arith, size, long)))
 
     ends-same : {r : Reply} {is : Slices} → StepEnds q text r was is → StepEnds q other r was is
     unfolding callOf

@@ -12,6 +12,7 @@ use Rattle.rules.specs.Slots.{one, countOver}
 use Rattle.rules.specs.Store.{Name, State, sameName, capLives, objectNamed}
 use Rattle.rules.specs.Valid.{Valid}
 use Rattle.rules.specs.Rights.{has}
+use Rattle.rules.specs.Refusals.{expired}
 use Rattle.rules.specs.Questions.{opening}
 use Rattle.rules.specs.Theorems.{holding, PasswordsCaps}
 use Rattle.rules.proofs.Tests.{by-bool, bool-same, same-name, name-same, lives, does-live}
@@ -39,7 +40,11 @@ module _ (s : State) (G : Valid s) (n : Name) (right : ℕ) where
       let q : s .cap i .object ≡ objectNamed s n = eqb-true _ _ e in
       name-same (name-of i) n (ap (λ o. s .object o .name) q ∙ named s n (λ z. h (q ∙ z))))
 
-  held-so : (i : ℕ) → (capLives s i && sameName (name-of i) n && has (s .cap i .rights) right)
+  -- it is not expired and holds the right
+  abbrev grants : ℕ → Bool
+  grants i = not (expired s i) && has (s .cap i .rights) right
+
+  held-so : (i : ℕ) → (capLives s i && sameName (name-of i) n && grants i)
       ≡ holds s (objectNamed s n) right i
   unfolding holds
   held-so i = by-bool (capLives s i) (λ e. rw (e, of-slot i e)) (λ e. rw e)
@@ -48,7 +53,7 @@ module _ (s : State) (G : Valid s) (n : Name) (right : ℕ) where
   unfolding PasswordsCaps holding holdingAt countOver
   opening-at me =
       passwords-caps s me n right G
-      ∙ sum-same Limit.caps (λ i. one (capLives s i && sameName (name-of i) n && has (s .cap i .rights) right))
+      ∙ sum-same Limit.caps (λ i. one (capLives s i && sameName (name-of i) n && grants i))
       (λ i. one (holds s (objectNamed s n) right i)) (λ i _ _. ap one (held-so i))
 
 -- no capability is of slot 0
@@ -56,7 +61,8 @@ pub holding-none : (s : State) (o right : ℕ) → o ≡ 0 → 0 ≡ holdingAt s
 unfolding holdingAt holds capLives countOver one
 holding-none s o right z = sym (sum-zero Limit.caps (λ i. one (holds s o right i)) (λ i _ _. rw z (none i)))
   where
-    none : (i : ℕ) → one (not (eqb (s .cap i .object) 0) && eqb (s .cap i .object) 0 && has (s .cap i .rights) right) ≡ 0
+    none : (i : ℕ) → one (not (eqb (s .cap i .object) 0) && eqb (s .cap i .object) 0
+        && (not (expired s i) && has (s .cap i .rights) right)) ≡ 0
     none i = by-bool (eqb (s .cap i .object) 0) (λ e. rw e) (λ e. rw e)
 
 -- ---- one slot, by its cells
@@ -67,8 +73,9 @@ module _ (b l w : List ℕ) (i o right : ℕ) where
   unfolding holds one
   held-not ne = rw (cap-object b l w i, ne-eqb (ownerOf l i) o ne, and-false (capLives (view b l w) i))
 
-  -- it is the object's, and holds the right as t says
-  pub held-by : ownerOf l i ≡ o → o ≢ 0 → (t : Bool) → has (view b l w .cap i .rights) right ≡ t
+  -- it is the object's, and is not expired and holds the right as t says
+  pub held-by : ownerOf l i ≡ o → o ≢ 0 → (t : Bool)
+      → (not (expired (view b l w) i) && has (view b l w .cap i .rights) right) ≡ t
       → one t ≡ one (holds (view b l w) o right i)
   unfolding holds
   held-by e nz t h =

@@ -86,8 +86,8 @@ valid-after s (l ∷ ls) v h =
     let f = all2 (wordsFit (call l)) (allFit ls) h in
     valid-after (lineRule s l .after) ls (valid-line s l v (f .0)) (f .1)
 
--- each line is done: there are seven capabilities more than at first
-pub lines-done : capsLive hall ≡ 8
+-- each line is done: there are nine capabilities more than at first
+pub lines-done : capsLive hall ≡ 10
 unfolding Script.computes Rules.computes Edges.computes
 lines-done = refl
 

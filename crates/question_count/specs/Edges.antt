@@ -32,6 +32,10 @@ lines =
     ∷ (1 ∷ 0 ∷ 1 ∷ 3 ∷ 0 ∷ 1 ∷ 8191 ∷ 8 ∷ 61 ∷ 13 ∷ [])
     -- the lockword of 0 1 is 6 and 0
     ∷ locks 6
+    -- all rights until day 3, and until day 4, which it is
+    ∷ (5 ∷ 0 ∷ 1 ∷ 2 ∷ 7 ∷ 11 ∷ 13 ∷ 8191 ∷ 0 ∷ 128 ∷ 0 ∷ 3 ∷ 71 ∷ 13 ∷ [])
+    ∷ (5 ∷ 0 ∷ 1 ∷ 2 ∷ 7 ∷ 11 ∷ 13 ∷ 8191 ∷ 0 ∷ 128 ∷ 0 ∷ 4 ∷ 81 ∷ 13 ∷ [])
+    ∷ (17 ∷ 4 ∷ [])
     ∷ []
 
 unfoldable pub hall : State
@@ -57,13 +61,13 @@ edge v s w t right code count = record {
 unfoldable pub edges : List Edge
 edges =
     -- the object 2 7: READ, WRITE, CAP_INFO, REVIVE
-    edge 0 1 2 7 1 0 4
-    ∷ edge 0 1 2 7 2 0 4
-    ∷ edge 0 1 2 7 4 0 3
-    ∷ edge 0 1 2 7 4096 0 3
+    edge 0 1 2 7 1 0 5
+    ∷ edge 0 1 2 7 2 0 5
+    ∷ edge 0 1 2 7 4 0 4
+    ∷ edge 0 1 2 7 4096 0 4
     -- by another lockword there are as many; marks are not looked at
-    ∷ edge 3 8 2 7 1 0 4
-    ∷ edge 3 8 2 7 4096 0 3
+    ∷ edge 3 8 2 7 1 0 5
+    ∷ edge 3 8 2 7 4096 0 4
     -- the processes' own masters
     ∷ edge 0 1 0 1 1 0 1
     ∷ edge 3 8 0 1 4096 0 1
@@ -120,6 +124,8 @@ tries =
     ∷ try 41 13 false
     ∷ try 51 13 false
     ∷ try 11 12 false
+    ∷ try 71 13 false
+    ∷ try 81 13 true
     ∷ []
 
 unfoldable pub tried : Try → Bool

@@ -1,6 +1,6 @@
 // 02, CR 8, the free question: how many passwords, "presented by a named process for one object and one right, would get past
-// 5 and 6". There are as many as capabilities of the object that hold the right, and these are counted. The slices are only
-// read.
+// 5 and 6", and since CR 9 past 19. There are as many as capabilities of the object that are not expired and hold the right, and
+// these are counted. The slices are only read.
 ghost use mathlib.Core.Path.{_≡_};
 ghost use mathlib.Core.Logic.{_≢_};
 ghost use mathlib.Core.List.{List};
@@ -16,6 +16,7 @@ ghost use Rattle.call_steps.specs.Tests.{CapSlot};
 ghost use Rattle.question_count.specs.Holding.{holds, holdingAt};
 ghost use Rattle.question_count.specs.Asks.{countedOf, Asks};
 use call_steps::objects::find_object;
+use call_steps::present::expired;
 use call_steps::present::right_held;
 use call_steps::ranges::name_fits;
 use call_steps::request::Name;
@@ -43,12 +44,16 @@ fn refuse(code: u32) -> Counted
     Counted { code, count: 0 }
 }
 
-// How many passwords there are by slot i: 1 where it holds a capability of the object in slot o that holds the right, else 0.
+// How many passwords there are by slot i: 1 where it holds a capability of the object in slot o that is not expired and holds
+// the right, else 0.
 fn held_at(links: &[u16], i: usize, o: usize, right: Rights) -> u32
     requires { ⌜ length (now links) ≡ Layout.LINKS ⌝ ∗ ⌜ CapSlot i ⌝ ∗ ⌜ o ≢ 0 ⌝ }
     ensures { λ r. ⌜ ((b w : List ℕ) → r ≡ one (holds (view b (now (links .entry)) w) o (right .0) i)) ⌝ }
 {
     if slot(links[OWNER + i]) == o {
+        if expired(links, i) {
+            return 0;
+        }
         if right_held(links, i, right) {
             return 1;
         }
@@ -57,7 +62,7 @@ fn held_at(links: &[u16], i: usize, o: usize, right: Rights) -> u32
     0
 }
 
-// How many capabilities of the object in slot o hold the right; an absent object has none.
+// How many capabilities of the object in slot o are not expired and hold the right; an absent object has none.
 fn held(links: &[u16], o: usize, right: Rights) -> u32
     requires { ⌜ length (now links) ≡ Layout.LINKS ⌝ }
     ensures { λ r. ⌜ ((b w : List ℕ) → r ≡ holdingAt (view b (now (links .entry)) w) o (right .0)) ⌝ }

@@ -36,7 +36,7 @@ module _ (s : State) (caller : Store.Name) (x : Call.Capability) where
     unfolding windowRefuses first _when_
     asked-three h = asked-refused Code.notRunning (rw (fit, ← who, h)) (λ z. omega arith)
 
-    -- n is what 5 and 6 come to
+    -- n is what 5, 19 and 6 come to
     module _ (runs : running s me ≡ true) (n : ℕ) (shows : n ≡ first (showing s (presented s me x) READ)) where
       refuses-late : first (windowRefuses s caller x) ≡ n
       unfolding windowRefuses windowSlot first _when_

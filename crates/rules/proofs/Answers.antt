@@ -10,6 +10,7 @@ use borrow.Author.Tests.{eq-eqb, ne-eqb}
 use Rattle.rules.specs.Store.{Message, State}
 use Rattle.rules.specs.Rights.{Op, makeObj, read, write, capInfo, deriveCap, deleteCap, renameObj, withdraw}
 use Rattle.rules.specs.Rights.{deposit, suspend, resume, applyLock, send, receive, wait, revive, unknown, op}
+use Rattle.rules.specs.Rights.{dayNumber}
 use Rattle.rules.specs.Call.{Call, Answer, Outcome, Choice, code, done, handsBack, handsOver, tells}
 use Rattle.rules.specs.Refusals.{argumentsFit, caller, early}
 use Rattle.rules.specs.Changes.{setTerminated}
@@ -20,7 +21,7 @@ use Rattle.rules.specs.Rule.{stopped, paid, late, rule, isDone}
 use Rattle.rules.specs.Theorems.{Refused}
 use Rattle.rules.proofs.Tests.{by-eq, pick-yes, pick-not}
 use Rattle.rules.proofs.Ready.{early-low, late-high, slotOf, early-fits}
-use Rattle.rules.proofs.Outcomes.{done-out, rule-early, rule-late, rule-done, rule-by}
+use Rattle.rules.proofs.Outcomes.{done-out, rule-host, rule-early, rule-late, rule-done, rule-by, day-by, day-not-four}
 use Rattle.rules.proofs.Keeping.{wait-by}
 use Rattle.rules.proofs.Deleting.{delete-by}
 
@@ -84,45 +85,59 @@ pub is-done : (s : State) (c : Call) (h : Choice) → early s c ≡ 0 → isDone
 unfolding isDone
 is-done s c h e = eq-eqb _ _ (does-done (paid s c) c (caller s c) (slotOf s c) h (op (c .number)) (early-fits s c e))
 
--- where a call is done it meets no refusal
+-- where a process's call is done it meets no refusal
 pub done-by : (s : State) (c : Call) (h : Choice) (P : Outcome → Type 0)
+    → c .number ≢ dayNumber
     → (early s c ≡ 0 → late (paid s c) c (slotOf s c) ≡ 0 → P (done-out s c h)) → isDone (rule s c h) ≡ true
     → P (rule s c h)
-done-by s c h P f = rule-by s c h (λ r. isDone r ≡ true → P r)
-    (λ n q. absurd (true≢false (sym q ∙ refused-not (early s c) (stopped s c (early s c)) n)))
-    (λ e n q. absurd (true≢false (sym q ∙ refused-not (late (paid s c) c (slotOf s c)) (paid s c) n)))
-    (λ a b q. f a b)
+done-by s c h P p f = rule-by s c h (λ r. isDone r ≡ true → P r)
+    (λ e. absurd (p e))
+    (λ _ n q. absurd (true≢false (sym q ∙ refused-not (early s c) (stopped s c (early s c)) n)))
+    (λ _ e n q. absurd (true≢false (sym q ∙ refused-not (late (paid s c) c (slotOf s c)) (paid s c) n)))
+    (λ _ a b q. f a b)
 
 -- ---- the rule
 
 pub refused-rule : (s : State) (c : Call) (h : Choice) → isDone (rule s c h) ≡ false → Refused s c (rule s c h)
-unfolding code stopped
+unfolding code stopped done isDone
 refused-rule s c h = rule-by s c h (λ r. isDone r ≡ false → Refused s c r)
-    (λ n q.
+    (λ e. day-by s c (λ r. isDone r ≡ false → Refused s c r)
+    (λ n q. record {
+      others = refl;
+      nothing = λ b. refl;
+      marks = λ b. absurd (day-not-four s c b);
+      fee = λ p. absurd (p e);
+      host = λ _. refl;
+    })
+    (λ z q. absurd (true≢false q)))
+    (λ p n q.
     let m : ℕ = early s c in
     let x : State = setTerminated s (caller s c) true in
     record {
       others = refl;
       nothing = λ b. pick-not (eqb m 4) x s (ne-eqb m 4 (λ e. omega arith));
       marks = λ e. pick-yes (eqb m 4) x s (eq-eqb m 4 e);
-      fee = λ b. absurd (omega (arith, early-low s c n));
+      fee = λ _ b. absurd (omega (arith, early-low s c n));
+      host = λ e. absurd (p e);
     })
-    (λ e n q. record {
+    (λ p e n q. record {
       others = refl;
       nothing = λ b. absurd (omega (arith, late-high (paid s c) c (slotOf s c) n));
       marks = λ b. absurd (omega (arith, late-high (paid s c) c (slotOf s c) n));
-      fee = λ b. refl;
+      fee = λ _ b. refl;
+      host = λ e. absurd (p e);
     })
-    (λ e f q. absurd (true≢false (sym (is-done s c h e) ∙ q)))
+    (λ _ e f q. absurd (true≢false (sym (is-done s c h e) ∙ q)))
 
 pub answer-same : (s : State) (c : Call) (h g : Choice) → rule s c h .answer ≡ rule s c g .answer
 answer-same s c h g =
     let answer : Outcome → Answer = λ r. r .answer in
-    by-eq (early s c) 0
+    by-eq (c .number) dayNumber (λ q. ap answer (rule-host s c h q) ∙ sym (ap answer (rule-host s c g q)))
+    (λ p. by-eq (early s c) 0
     (λ e. by-eq (late (paid s c) c (slotOf s c)) 0
     (λ f.
-    ap answer (rule-done s c h e f)
+    ap answer (rule-done s c h p e f)
     ∙ does-fixed (paid s c) c (caller s c) (slotOf s c) h g (op (c .number))
-    ∙ sym (ap answer (rule-done s c g e f)))
-    (λ n. ap answer (rule-late s c h e n) ∙ sym (ap answer (rule-late s c g e n))))
-    (λ n. ap answer (rule-early s c h n) ∙ sym (ap answer (rule-early s c g n)))
+    ∙ sym (ap answer (rule-done s c g p e f)))
+    (λ n. ap answer (rule-late s c h p e n) ∙ sym (ap answer (rule-late s c g p e n))))
+    (λ n. ap answer (rule-early s c h p n) ∙ sym (ap answer (rule-early s c g p n))))

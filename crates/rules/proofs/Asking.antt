@@ -1,4 +1,4 @@
--- The window question has read's refusals: 2 of the two names, 3, 5 and 6. So a read inside the window that it tells is
+-- The window question has read's refusals: 2 of the two names, 3, 5, 19 and 6. So a read inside the window that it tells is
 -- refused by none but 2, 3 and 4.
 use Prim.Native.Nat.{ℕ, _≤_}
 use mathlib.Core.Path.{_≡_, refl, sym, _∙_}
@@ -13,7 +13,8 @@ use Rattle.rules.specs.Store.{Name, State, objectNamed, capLives}
 use Rattle.rules.specs.Rights.{READ, op, read, feeOf, asked, presents}
 use Rattle.rules.specs.Call.{Capability, Call, Choice, code}
 use Rattle.rules.specs.Password.{presented}
-use Rattle.rules.specs.Refusals.{Refusal, _when_, first, nameFits, argumentsFit, inRange, caller, running, early, showing, presenting}
+use Rattle.rules.specs.Refusals.{Refusal, _when_, first, nameFits, argumentsFit, inRange, caller, running, early, expired, showing}
+use Rattle.rules.specs.Refusals.{presenting}
 use Rattle.rules.specs.Update.{withHouse, withCash}
 use Rattle.rules.specs.Changes.{spend, toHouse}
 use Rattle.rules.specs.Calls.{liesIn, transferRefuses, refuses}
@@ -22,7 +23,7 @@ use Rattle.rules.specs.Questions.{Windowed, windowSlot, windowRefuses, u
 use Rattle.rules.specs.Theorems.{readRefuses}
 use Rattle.rules.proofs.Tests.{by-bool, pick-by}
 use Rattle.rules.proofs.Ready.{slotOf, numbers, none-met, first-in, first-append, early-low, early-fits}
-use Rattle.rules.proofs.Outcomes.{done-out, rule-by}
+use Rattle.rules.proofs.Outcomes.{host-not, done-out, rule-by}
 use Rattle.rules.proofs.Answers.{does-done}
 
 -- ---- the question's answer
@@ -55,7 +56,7 @@ module _ (s : State) (c : Call) (isRead : op (c .number) ≡ read) where
   abbrev k : ℕ
   k = windowSlot s (c .caller) (c .presented)
 
-  -- 7, and 5, 6 and 7
+  -- 7, and 5, 19, 6 and 7
   abbrev seven : List Refusal
   seven = Code.outsideWindow when not (liesIn (c .range) (s .cap k .window)) ∷ []
 
@@ -65,7 +66,7 @@ module _ (s : State) (c : Call) (isRead : op (c .number) ≡ read) where
   -- what the fee leaves has the same capabilities
   late-is : late (paid s c) c (slotOf s c) ≡ first lates
   unfolding late presenting presents asked refuses paid toHouse spend withCash withHouse caller objectNamed presented windowSlot
-      capLives showing transferRefuses
+      capLives showing expired transferRefuses
   late-is = rw isRead refl
 
   does-read : (h : Choice) → early s c ≡ Code.done → done-out s c h .answer .code ≡ Code.done
@@ -111,9 +112,10 @@ module _ (s : State) (c : Call) (isRead : op (c .number) ≡ read) where
     pub read-refused : (h : Choice) → rule s c h .answer .code ≡ first (readRefuses s c)
     unfolding code
     read-refused h = rule-by s c h (λ o. o .answer .code ≡ first (readRefuses s c))
-        (λ nz. sym (refuses-early nz))
-        (λ z nz. late-is ∙ sym (refuses-after z))
-        (λ z none. does-read h z ∙ sym none ∙ late-is ∙ sym (refuses-after z))
+        (λ e. absurd (host-not (c .number) e isRead refl))
+        (λ _ nz. sym (refuses-early nz))
+        (λ _ z nz. late-is ∙ sym (refuses-after z))
+        (λ _ z none. does-read h z ∙ sym none ∙ late-is ∙ sym (refuses-after z))
 
   -- ---- the question is answered, and the range lies in the window that it tells
 
@@ -129,6 +131,7 @@ module _ (s : State) (c : Call) (isRead : op (c .number) ≡ read) where
     pub read-inside : (h : Choice) → rule s c h .answer .code ≢ Code.done → rule s c h .answer .code ≤ Code.cannotPay
     unfolding code
     read-inside h = rule-by s c h (λ o. o .answer .code ≢ Code.done → o .answer .code ≤ Code.cannotPay)
-        (λ nz _. early-low s c nz)
-        (λ z nz _. absurd (nz (late-is ∙ lates-none)))
-        (λ z none nz. absurd (nz (does-read h z)))
+        (λ e. absurd (host-not (c .number) e isRead refl))
+        (λ _ nz _. early-low s c nz)
+        (λ _ z nz _. absurd (nz (late-is ∙ lates-none)))
+        (λ _ z none nz. absurd (nz (does-read h z)))

@@ -9,7 +9,7 @@ use Rattle.rules.specs.Rights.{Op, makeObj, read, write, capInfo, derive
 use Rattle.rules.specs.Rights.{deposit, suspend, resume, applyLock, send, receive, wait, revive, unknown, op}
 use Rattle.rules.specs.Call.{Call, Choice, done, handsBack, handsOver, tells}
 use Rattle.rules.specs.Refusals.{caller}
-use Rattle.rules.specs.Update.{withHouse, withBytes, withLock, withCash, withMarks, withBox, withCap, withMoney}
+use Rattle.rules.specs.Update.{withHouse, withDay, withBytes, withLock, withCash, withMarks, withBox, withCap, withMoney}
 use Rattle.rules.specs.Changes.{earn, spend, toHouse, setSuspended, setWaiting, setTerminated, onClimb, newCap}
 use Rattle.rules.specs.Changes.{endWhere, newObject, endObject}
 use Rattle.rules.specs.Calls.{makeObjDoes, readDoes, writeDoes, capInfoDoes, deriveCapDoes, deleted, emptied}
@@ -20,7 +20,7 @@ use Rattle.rules.specs.Demand.{Now, Step, next, run}
 use Rattle.rules.specs.Theorems.{Awake}
 use Rattle.rules.proofs.Slots.{at-by, at-both}
 use Rattle.rules.proofs.Ready.{not-waiting, slotOf}
-use Rattle.rules.proofs.Outcomes.{stopped-by, rule-by}
+use Rattle.rules.proofs.Outcomes.{stopped-by, rule-by, day-by}
 use Rattle.rules.proofs.Keeping.{wait-by}
 use Rattle.rules.proofs.Deleting.{delete-by}
 
@@ -78,11 +78,12 @@ module _ (s : State) (A : Awake s) (c : Call) (me k : ℕ) (f : s .marks me .wai
 -- ---- every call, and lists of them
 
 rule-awake : (s : State) (c : Call) (h : Choice) → Awake s → Awake (rule s c h .after)
-unfolding Awake setTerminated paid toHouse spend withCash withHouse
+unfolding Awake setTerminated paid toHouse spend withCash withHouse done withDay
 rule-awake s c h A = rule-by s c h (λ r. Awake (r .after))
-    (λ _. stopped-by s c Awake (λ _. mark-awake s A (caller s c) _ (A (caller s c))) A)
-    (λ _ _. A)
-    (λ e _. does-awake (paid s c) A c (caller s c) (slotOf s c) (not-waiting s c e) h (op (c .number)))
+    (λ _. day-by s c (λ r. Awake (r .after)) (λ _. A) (λ _. A))
+    (λ _ _. stopped-by s c Awake (λ _. mark-awake s A (caller s c) _ (A (caller s c))) A)
+    (λ _ _ _. A)
+    (λ _ e _. does-awake (paid s c) A c (caller s c) (slotOf s c) (not-waiting s c e) h (op (c .number)))
 
 pub run-awake : (n : Now) (l : List Step) → Awake (n .store) → Awake (run n l .store)
 unfolding run next

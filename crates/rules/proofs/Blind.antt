@@ -4,23 +4,25 @@ use mathlib.Core.Path.{_≡_, refl, sym, ap, _∙_, subst}
 use mathlib.Core.Bool.{Bool, true, false}
 use mathlib.Core.List.{List, [], _∷_, map}
 use native.Mathlib.Omega.{arith}
-use lib.Dec.{eqb}
+use lib.Dec.{eqb, ltb}
 use lib.ListN.{length}
 use borrow.Author.Tests.{eqb-true}
+use Rattle.rules.specs.Limit as Limit
 use Rattle.rules.specs.Code as Code
 use Rattle.rules.specs.Store.{State, objectNamed}
 use Rattle.rules.specs.Valid.{Formed, Valid}
-use Rattle.rules.specs.Rights.{op, feeOf}
-use Rattle.rules.specs.Call.{Call, Outcome, Choice, code}
-use Rattle.rules.specs.Refusals.{caller, early}
+use Rattle.rules.specs.Rights.{op, feeOf, dayNumber}
+use Rattle.rules.specs.Call.{Call, Outcome, Choice, code, done}
+use Rattle.rules.specs.Refusals.{_when_, first, caller, early}
 use Rattle.rules.specs.Update.{withHouse, withCash}
 use Rattle.rules.specs.Changes.{spend, toHouse, setTerminated}
-use Rattle.rules.specs.Rule.{stopped, paid, late, rule, isDone}
+use Rattle.rules.specs.Rule.{stopped, paid, late, dayRefuses, dayRule, rule, isDone}
 use Rattle.rules.specs.Demand.{Open, Allowed, Now, Step, start, next, run, Legal}
 use Rattle.rules.proofs.Tests.{by-eq}
 use Rattle.rules.proofs.Presenting.{shown}
 use Rattle.rules.proofs.Ready.{payer, stopper, slotOf, ready}
-use Rattle.rules.proofs.Outcomes.{early-out, late-out, done-out, rule-early, rule-late, rule-done}
+use Rattle.rules.proofs.Outcomes.{early-out, late-out, done-out, rule-host, rule-early, rule-late, rule-done}
+use Rattle.rules.proofs.Outcomes.{day-refused, day-done}
 use Rattle.rules.proofs.Answers.{is-done}
 use Rattle.rules.proofs.Steps.{open-takes, keep-paid}
 use Rattle.rules.proofs.Runs.{valid-step}
@@ -29,7 +31,7 @@ use Rattle.rules.specs.Meaning.{SameMeaning}
 use Rattle.rules.specs.Blind.{MeaningBlind, MoneyBlind, answers, ListsBlind}
 use Rattle.rules.proofs.Carried.{Maps, Alive, CarriedBy, Carries, Alike}
 use Rattle.rules.proofs.Moving.{f-once, presented-carried}
-use Rattle.rules.proofs.Changing.{to-house, spent, terminated}
+use Rattle.rules.proofs.Changing.{to-house, set-day, spent, terminated}
 use Rattle.rules.proofs.Meaning.{same-meaning, cash-carried, masters-carried, boxes-carried}
 use Rattle.rules.proofs.Meant.{meant-carries}
 use Rattle.rules.proofs.Refusing.{caller-carried, early-carried, late-carried}
@@ -113,20 +115,40 @@ module _ {m : Maps} (s t : State) (S : Formed s) (T : Formed t) (A : CarriedBy m
         live me-is slot-is h g (op (c .number)) (ready s c (S .objects) e f)
         (open-takes s c h p) (open-takes t c g q)
 
-  -- ---- the three outcomes
+  -- ---- call 17
+
+  day-is : first (dayRefuses t (c .day)) ≡ first (dayRefuses s (c .day))
+  unfolding dayRefuses
+  day-is = ap (λ d. first (Code.outOfRange when ltb Limit.day (c .day) ∷ Code.earlierDay when ltb (c .day) d ∷ [])) (A .day)
+
+  day-alike : Alike (dayRule s c) (dayRule t c)
+  unfolding done
+  day-alike = by-eq (first (dayRefuses s (c .day))) Code.done
+      (λ e. as-alike (day-done s c e) (day-done t c (day-is ∙ e)) (record {
+        answer = refl;
+        after = record { maps = m; by = set-day A (c .day) };
+      }))
+      (λ n. as-alike (day-refused s c n) (day-refused t c (λ z. n (sym day-is ∙ z))) (record {
+        answer = ap code day-is;
+        after = record { maps = m; by = A };
+      }))
+
+  -- ---- all outcomes
 
   rule-alike : (h g : Choice) → Allowed s c h → Allowed t c g → Alike (rule s c h) (rule t c g)
-  rule-alike h g P Q = by-eq (early s c) 0
+  rule-alike h g P Q = by-eq (c .number) dayNumber
+      (λ z. as-alike (rule-host s c h z) (rule-host t c g z) day-alike)
+      (λ p. by-eq (early s c) 0
       (λ e.
       let e′ = early-is ∙ e in
       by-eq (late (paid s c) c (slotOf s c)) 0
       (λ f.
-      let a = rule-done s c h e f in
-      let b = rule-done t c g e′ (late-is e ∙ f) in
+      let a = rule-done s c h p e f in
+      let b = rule-done t c g p e′ (late-is e ∙ f) in
       as-alike a b (done-alike e f h g
       (P .choice (ap isDone a ∙ is-done s c h e)) (Q .choice (ap isDone b ∙ is-done t c g e′))))
-      (λ n. as-alike (rule-late s c h e n) (rule-late t c g e′ (λ z. n (sym (late-is e) ∙ z))) (late-alike e)))
-      (λ n. as-alike (rule-early s c h n) (rule-early t c g (λ z. n (sym early-is ∙ z))) early-alike)
+      (λ n. as-alike (rule-late s c h p e n) (rule-late t c g p e′ (λ z. n (sym (late-is e) ∙ z))) (late-alike e)))
+      (λ n. as-alike (rule-early s c h p n) (rule-early t c g p (λ z. n (sym early-is ∙ z))) early-alike))
 
 -- two carried states, any call, any two allowed choices
 pub rules-blind : (s t : State) (c : Call) (h g : Choice) → Valid s → Valid t → Carries s t → Allowed s c h → Allowed t c g
@@ -174,6 +196,7 @@ carries-self s = record {
       cap-back = λ i h. (h, refl);
     };
     house = refl;
+    day = refl;
     bytes = λ o h. refl;
     lock = λ o h. refl;
     cash = λ o h. refl;

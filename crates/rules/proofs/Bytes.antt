@@ -11,20 +11,21 @@ use Rattle.rules.specs.Slots.{at}
 use Rattle.rules.specs.Store.{Object, Message, State, noObject}
 use Rattle.rules.specs.Rights.{Op, makeObj, read, write, capInfo, deriveCap, deleteCap, renameObj, withdraw}
 use Rattle.rules.specs.Rights.{deposit, suspend, resume, applyLock, send, receive, wait, revive, unknown, op}
-use Rattle.rules.specs.Call.{Call, Choice, done, handsBack, handsOver, tells}
-use Rattle.rules.specs.Refusals.{caller, early}
-use Rattle.rules.specs.Update.{withHouse, withCash, withMarks, withCap, withMoney, withBox, withLock, withBytes}
+use Rattle.rules.specs.Rights.{dayNumber}
+use Rattle.rules.specs.Call.{Call, Choice, code, done, handsBack, handsOver, tells}
+use Rattle.rules.specs.Refusals.{first, caller, early}
+use Rattle.rules.specs.Update.{withHouse, withDay, withCash, withMarks, withCap, withMoney, withBox, withLock, withBytes}
 use Rattle.rules.specs.Changes.{earn, spend, toHouse, setSuspended, setWaiting, setTerminated, onClimb, newCap}
 use Rattle.rules.specs.Changes.{endWhere, newObject, endObject}
 use Rattle.rules.specs.Calls.{makeObjDoes, madeObject, readDoes, writeDoes, written, capInfoDoes, deriveCapDoes}
 use Rattle.rules.specs.Calls.{deleted, emptied, renameObjDoes, withdrawDoes, depositDoes, suspendDoes, resumeDoes}
 use Rattle.rules.specs.Calls.{applyLockDoes, sendDoes, receiveDoes, reviveDoes, does}
-use Rattle.rules.specs.Rule.{stopped, paid, late, rule, isDone}
+use Rattle.rules.specs.Rule.{stopped, paid, late, dayRefuses, dayRule, rule, isDone}
 use Rattle.rules.specs.Demand.{FreeObject, Open}
 use Rattle.rules.proofs.Tests.{by-eq}
 use Rattle.rules.proofs.Slots.{at-here, at-else}
 use Rattle.rules.proofs.Ready.{slotOf}
-use Rattle.rules.proofs.Outcomes.{stopped-by, done-out, rule-by}
+use Rattle.rules.proofs.Outcomes.{host-op, stopped-by, done-out, rule-by, day-by}
 use Rattle.rules.proofs.Answers.{refused-not, is-done}
 use Rattle.rules.proofs.Keeping.{wait-by}
 use Rattle.rules.proofs.Deleting.{delete-by}
@@ -196,6 +197,13 @@ module _ (s : State) (c : Call) (q : ℕ) where
   unfolding paid toHouse spend withCash withHouse
   paid-bytes = same s q (paid s c) refl refl
 
+  day-bytes : c .number ≡ dayNumber → Bytes s q (bytesLeft (isDone (dayRule s c))) (dayRule s c .after)
+  unfolding bytesLeft bytesOf done code isDone withDay paid toHouse spend withCash withHouse
+  day-bytes z = day-by s c (λ r. Bytes s q (bytesLeft (isDone r)) (r .after))
+      (λ n. subst (λ d. Bytes s q (bytesLeft d) s) (sym (refused-not (first (dayRefuses s (c .day))) s n)) (same s q s refl refl))
+      (λ _. subst (λ o. Bytes s q (bytesOf (paid s c) c (caller s c) (slotOf s c) q o) (withDay s (c .day)))
+      (sym (host-op (c .number) z)) (same s q (withDay s (c .day)) refl refl))
+
   done-bytes : (h : Choice) → Open s c h
       → Bytes s q (bytesOf (paid s c) c (caller s c) (slotOf s c) q (op (c .number))) (done-out s c h .after)
   unfolding paid toHouse spend withCash withHouse FreeObject
@@ -207,9 +215,10 @@ module _ (s : State) (c : Call) (q : ℕ) where
       → Bytes s q (bytesLeft (isDone (rule s c h))) (rule s c h .after)
   unfolding bytesLeft
   rule-bytes h = rule-by s c h (λ r. (isDone r ≡ true → Open s c h) → Bytes s q (bytesLeft (isDone r)) (r .after))
-      (λ n g. subst (λ d. Bytes s q (bytesLeft d) (stopped s c (early s c)))
+      (λ z g. day-bytes z)
+      (λ _ n g. subst (λ d. Bytes s q (bytesLeft d) (stopped s c (early s c)))
       (sym (refused-not (early s c) (stopped s c (early s c)) n)) stopped-bytes)
-      (λ e n g. subst (λ d. Bytes s q (bytesLeft d) (paid s c))
+      (λ _ e n g. subst (λ d. Bytes s q (bytesLeft d) (paid s c))
       (sym (refused-not (late (paid s c) c (slotOf s c)) (paid s c) n)) paid-bytes)
-      (λ e f g. subst (λ d. Bytes s q (bytesLeft d) (done-out s c h .after)) (sym (is-done s c h e))
+      (λ _ e f g. subst (λ d. Bytes s q (bytesLeft d) (done-out s c h .after)) (sym (is-done s c h e))
       (done-bytes h (g (is-done s c h e))))

@@ -30,6 +30,7 @@ carried m x = record {
   password = x .password;
   window = x .window;
   rights = x .rights;
+  lastDay = x .lastDay;
 }
 
 -- the objects a are b there, the capabilities x are y there, each in a slot of its own; 0 is no slot here and there
@@ -45,6 +46,7 @@ pub record Moves (m : Maps) (a b : ℕ → Object) (x y : ℕ → Cap) : Type 0 
 pub record CarriedBy (m : Maps) (s t : State) : Type 0 where
   pub moves : Moves m (s .object) (t .object) (s .cap) (t .cap)
   pub house : t .house ≡ s .house
+  pub day : t .day ≡ s .day
   pub bytes : Along (Alive (s .object)) (m .object) (s .bytes) (t .bytes)
   pub lock : Along (Alive (s .object)) (m .object) (s .lock) (t .lock)
   pub cash : Along (Alive (s .object)) (m .object) (s .cash) (t .cash)

@@ -9,7 +9,7 @@ use lib.ListN.{replicate}
 use Rattle.rules.specs.Slots.{at}
 use Rattle.rules.specs.Store.{Lockword, Marks, Message, Object, Cap, State, noLockword}
 use Rattle.rules.specs.Valid.{Lives}
-use Rattle.rules.specs.Update.{withHouse, withBytes, withLock, withCash, withMarks, withBox, withCap, withMoney}
+use Rattle.rules.specs.Update.{withHouse, withDay, withBytes, withLock, withCash, withMarks, withBox, withCap, withMoney}
 use Rattle.rules.specs.Changes.{earn, spend, toHouse, setSuspended, setWaiting, setTerminated, newCap, endWhere}
 use Rattle.rules.specs.Changes.{newObject}
 use Rattle.rules.proofs.Tests.{by-eq}
@@ -39,6 +39,7 @@ added m i j = record {
 -- all parts by their places
 parts : {m : Maps} {s t : State} → Moves m (s .object) (t .object) (s .cap) (t .cap)
     → t .house ≡ s .house
+    → t .day ≡ s .day
     → Along (Alive (s .object)) (m .object) (s .bytes) (t .bytes)
     → Along (Alive (s .object)) (m .object) (s .lock) (t .lock)
     → Along (Alive (s .object)) (m .object) (s .cash) (t .cash)
@@ -46,19 +47,23 @@ parts : {m : Maps} {s t : State} → Moves m (s .object) (t .object) (s .cap) (t
     → Along (Alive (s .object)) (m .object) (s .box) (t .box)
     → Along (Lives (s .cap)) (m .cap) (s .money) (t .money)
     → CarriedBy m s t
-parts M h b l c k x w =
-    record { moves = M; house = h; bytes = b; lock = l; cash = c; marks = k; box = x; money = w }
+parts M h y b l c k x w =
+    record { moves = M; house = h; day = y; bytes = b; lock = l; cash = c; marks = k; box = x; money = w }
 
 -- ---- one part changes
 
 module _ {m : Maps} {s t : State} (A : CarriedBy m s t) where
   pub house-is : (x y : ℕ) → y ≡ x → CarriedBy m (withHouse s x) (withHouse t y)
   unfolding withHouse
-  house-is x y h = parts (A .moves) h (A .bytes) (A .lock) (A .cash) (A .marks) (A .box) (A .money)
+  house-is x y h = parts (A .moves) h (A .day) (A .bytes) (A .lock) (A .cash) (A .marks) (A .box) (A .money)
+
+  pub set-day : (x : ℕ) → CarriedBy m (withDay s x) (withDay t x)
+  unfolding withDay
+  set-day x = parts (A .moves) (A .house) (λ d. x) (A .bytes) (A .lock) (A .cash) (A .marks) (A .box) (A .money)
 
   pub money-is : (x y : ℕ → ℕ) → Along (Lives (s .cap)) (m .cap) x y → CarriedBy m (withMoney s x) (withMoney t y)
   unfolding withMoney
-  money-is x y h = parts (A .moves) (A .house) (A .bytes) (A .lock) (A .cash) (A .marks) (A .box) h
+  money-is x y h = parts (A .moves) (A .house) (A .day) (A .bytes) (A .lock) (A .cash) (A .marks) (A .box) h
 
   pub to-house : (n k : ℕ) → k ≡ n → CarriedBy m (toHouse s n) (toHouse t k)
   unfolding toHouse
@@ -70,34 +75,34 @@ module _ {m : Maps} {s t : State} (A : CarriedBy m s t) where
     pub bytes-at : (v w : List ℕ) → w ≡ v
         → CarriedBy m (withBytes s (at (s .bytes) o v)) (withBytes t (at (t .bytes) q w))
     unfolding withBytes
-    bytes-at v w h = parts (A .moves) (A .house) (at-along (s .bytes) (t .bytes) (A .bytes) once o q live e v w h)
+    bytes-at v w h = parts (A .moves) (A .house) (A .day) (at-along (s .bytes) (t .bytes) (A .bytes) once o q live e v w h)
         (A .lock) (A .cash) (A .marks) (A .box) (A .money)
 
     pub lock-at : (v w : Lockword) → w ≡ v
         → CarriedBy m (withLock s (at (s .lock) o v)) (withLock t (at (t .lock) q w))
     unfolding withLock
-    lock-at v w h = parts (A .moves) (A .house) (A .bytes)
+    lock-at v w h = parts (A .moves) (A .house) (A .day) (A .bytes)
         (at-along (s .lock) (t .lock) (A .lock) once o q live e v w h)
         (A .cash) (A .marks) (A .box) (A .money)
 
     pub cash-at : (v w : ℕ) → w ≡ v
         → CarriedBy m (withCash s (at (s .cash) o v)) (withCash t (at (t .cash) q w))
     unfolding withCash
-    cash-at v w h = parts (A .moves) (A .house) (A .bytes) (A .lock)
+    cash-at v w h = parts (A .moves) (A .house) (A .day) (A .bytes) (A .lock)
         (at-along (s .cash) (t .cash) (A .cash) once o q live e v w h)
         (A .marks) (A .box) (A .money)
 
     pub marks-at : (v w : Marks) → w ≡ v
         → CarriedBy m (withMarks s (at (s .marks) o v)) (withMarks t (at (t .marks) q w))
     unfolding withMarks
-    marks-at v w h = parts (A .moves) (A .house) (A .bytes) (A .lock) (A .cash)
+    marks-at v w h = parts (A .moves) (A .house) (A .day) (A .bytes) (A .lock) (A .cash)
         (at-along (s .marks) (t .marks) (A .marks) once o q live e v w h)
         (A .box) (A .money)
 
     pub box-at : (v w : List Message) → w ≡ v
         → CarriedBy m (withBox s (at (s .box) o v)) (withBox t (at (t .box) q w))
     unfolding withBox
-    box-at v w h = parts (A .moves) (A .house) (A .bytes) (A .lock) (A .cash) (A .marks)
+    box-at v w h = parts (A .moves) (A .house) (A .day) (A .bytes) (A .lock) (A .cash) (A .marks)
         (at-along (s .box) (t .box) (A .box) once o q live e v w h) (A .money)
 
     -- what the slot holds
@@ -167,7 +172,7 @@ module _ {m : Maps} {s t : State} (A : CarriedBy m s t) where
 
     pub ends-carried : CarriedBy m (endWhere s p) (endWhere t q)
     unfolding endWhere withMoney withCap
-    ends-carried = parts ends-moves (A .house) (A .bytes) (A .lock) (A .cash) (A .marks) (A .box) ends-money
+    ends-carried = parts ends-moves (A .house) (A .day) (A .bytes) (A .lock) (A .cash) (A .marks) (A .box) ends-money
 
     -- those that stay are taken to such as stay
     pub ends-goes : ((i : ℕ) → Lives (s .cap) i → Lives (t .cap) (m .cap i))
@@ -195,6 +200,7 @@ module _ {m : Maps} {s t : State} (A : CarriedBy m s t) where
       password = z .password;
       window = z .window;
       rights = z .rights;
+      lastDay = z .lastDay;
     }
       where
         parent : m .cap (z .parent) ≡ at (m .cap) i j (z .parent)
@@ -253,7 +259,7 @@ module _ {m : Maps} {s t : State} (A : CarriedBy m s t) where
     pub adds-carried : y ≡ carried m x → w ≡ v → CarriedBy (added m i j) (newCap s i x v) (newCap t j y w)
     unfolding newCap withMoney withCap
     adds-carried d e =
-        parts (adds-moves d) (A .house) (A .bytes) (A .lock) (A .cash) (A .marks) (A .box) (adds-money e)
+        parts (adds-moves d) (A .house) (A .day) (A .bytes) (A .lock) (A .cash) (A .marks) (A .box) (adds-money e)
 
   -- ---- an object is put in slot o here and in slot q there, where no capability is for it
 
@@ -282,6 +288,7 @@ module _ {m : Maps} {s t : State} (A : CarriedBy m s t) where
           password = s .cap i .password;
           window = s .cap i .window;
           rights = s .cap i .rights;
+          lastDay = s .cap i .lastDay;
         }
 
     place-moves : Moves (placed m o q) (at (s .object) o x) (at (t .object) q x) (s .cap) (t .cap)
@@ -312,7 +319,7 @@ module _ {m : Maps} {s t : State} (A : CarriedBy m s t) where
 
     pub place-carried : CarriedBy (placed m o q) (newObject s o x) (newObject t q x)
     unfolding newObject
-    place-carried = parts place-moves (A .house)
+    place-carried = parts place-moves (A .house) (A .day)
         (place-along (s .bytes) (t .bytes) (replicate (x .size) 0) (A .bytes))
         (place-along (s .lock) (t .lock) noLockword (A .lock))
         (place-along (s .cash) (t .cash) 0 (A .cash))

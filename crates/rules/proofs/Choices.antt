@@ -9,17 +9,18 @@ use Rattle.rules.specs.Limit as Limit
 use Rattle.rules.specs.Slots.{find}
 use Rattle.rules.specs.Store.{Cap, State, noCap, capLives, blocks, objectsLive, capsLive, freeBlocks}
 use Rattle.rules.specs.Valid.{Lives, Caps, Formed}
-use Rattle.rules.specs.Rights.{Op, makeObj, deriveCap, renameObj, op, presents}
+use Rattle.rules.specs.Rights.{Op, makeObj, deriveCap, renameObj, op, presents, dayNumber}
 use Rattle.rules.specs.Call.{Call, Choice}
 use Rattle.rules.specs.Refusals.{_when_, caller}
 use Rattle.rules.specs.Calls.{makeObjRefuses, deriveCapRefuses, emptied, refuses}
 use Rattle.rules.specs.Rule.{paid, rule, isDone}
 use Rattle.rules.specs.Demand.{FreeObject, FreeCap, Open}
 use Rattle.rules.specs.Script.{freed, lastFree}
-use Rattle.rules.proofs.Tests.{by-bool, refuted, none2, not-is-true, lives, not-lives}
+use Rattle.rules.proofs.Tests.{by-eq, by-bool, refuted, none2, not-is-true, lives, not-lives}
 use Rattle.rules.proofs.Slots.{find-finds, find-some, free-slot}
 use Rattle.rules.proofs.Ending.{end-cap, was}
 use Rattle.rules.proofs.Ready.{Ready, slotOf, ready}
+use Rattle.rules.proofs.Outcomes.{host-open}
 use Rattle.rules.proofs.Answers.{done-by}
 use Rattle.rules.proofs.Done.{Takes}
 use Rattle.rules.proofs.Steps.{takes-open, keep-paid}
@@ -87,10 +88,12 @@ module _ (s : State) (c : Call) (me k : ℕ) where
       )
 
 pub choose : (s : State) (c : Call) (h : Choice) → Formed s → isDone (rule s c h) ≡ true → (g : Choice) × Open s c g
-choose s c h G = done-by s c h (λ r. (g : Choice) × Open s c g) (λ e f.
+choose s c h G = by-eq (c .number) dayNumber
+    (λ z _. (h, host-open s c h z))
+    (λ p. done-by s c h (λ r. (g : Choice) × Open s c g) p (λ e f.
     let r = takes (paid s c) c (caller s c) (slotOf s c) (keep-paid s G c e .formed .caps) (op (c .number))
     (ready s c (G .objects) e f) in
-    (r .0, takes-open s c (r .0) (r .1)))
+    (r .0, takes-open s c (r .0) (r .1))))
 
 -- ---- the last free slots are such
 

@@ -63,7 +63,13 @@ module _ (s : State) (l : Ledger) (G : Formed s) (K : Linking s l) where
   within : (i j : ℕ) → Lives (s .cap) j → descends s j i ≡ true → Within s j i
   within i j h e =
       let w = descends-in s C j i h e in
-      record { object = w .object; tree = sym (master-same s C j i h e); rights = w .rights; window = w .window }
+      record {
+        object = w .object;
+        tree = sym (master-same s C j i h e);
+        rights = w .rights;
+        window = w .window;
+        lastDay = w .lastDay;
+      }
 
   -- a line from none is a master's
   from-none : (j : ℕ) → Lives (s .cap) j → l .line (K .num j) .from ≡ 0 → s .cap j .parent ≡ 0

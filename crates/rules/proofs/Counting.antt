@@ -13,7 +13,7 @@ use Rattle.rules.specs.Store.{Name, sameName, Password, samePassword, St
 use Rattle.rules.specs.Valid.{Formed}
 use Rattle.rules.specs.Rights.{has}
 use Rattle.rules.specs.Password.{unlock, presented}
-use Rattle.rules.specs.Refusals.{_when_, first, showing}
+use Rattle.rules.specs.Refusals.{_when_, first, expired, showing}
 use Rattle.rules.specs.Questions.{sumBelow, opens, opening}
 use Rattle.rules.specs.Theorems.{holding}
 use Rattle.rules.proofs.Tests.{refuted, all3, same-name, same-password, lives}
@@ -26,12 +26,15 @@ turned : (a b c : Bool) → ((a && b) && c) ≡ ((a && c) && b)
 turned true b c = and-comm b c
 turned false b c = refl
 
--- 5 and 6 are not met: some slot was found, and it holds the right
-past-first : (z h : Bool) → eqb (first (Code.notFound when z ∷ Code.rightMissing when not h ∷ [])) Code.done ≡ (not z && h)
+-- 5, 19 and 6 are not met: some slot was found, and it is not expired and holds the right
+past-first : (z x h : Bool)
+    → eqb (first (Code.notFound when z ∷ Code.expired when x ∷ Code.rightMissing when not h ∷ [])) Code.done
+    ≡ (not z && (not x && h))
 unfolding first _when_
-past-first true h = refl
-past-first false true = refl
-past-first false false = refl
+past-first true x h = refl
+past-first false true h = refl
+past-first false false true = refl
+past-first false false false = refl
 
 module _ (s : State) (me : ℕ) (n : Name) (right : ℕ) (F : Formed s) where
   -- it is a living capability of the object named
@@ -39,7 +42,7 @@ module _ (s : State) (me : ℕ) (n : Name) (right : ℕ) (F : Formed s) where
   named-so i = capLives s i && sameName (s .object (s .cap i .object) .name) n
 
   abbrev holds : ℕ → Bool
-  holds i = has (s .cap i .rights) right
+  holds i = not (expired s i) && has (s .cap i .rights) right
 
   abbrev pair : ℕ → ℕ → Password
   pair a b = record { p1 = a; p2 = b }
@@ -74,7 +77,7 @@ module _ (s : State) (me : ℕ) (n : Name) (right : ℕ) (F : Formed s) where
   unfolding opens showing presented countOver
   opens-count a b =
       let k : ℕ = find Limit.caps (shows a b) in
-      ap one (past-first (eqb k 0) (holds k)) ∙ find-counts Limit.caps (shows a b) holds (one-shows a b)
+      ap one (past-first (eqb k 0) (expired s k) (has (s .cap k .rights) right)) ∙ find-counts Limit.caps (shows a b) holds (one-shows a b)
 
   -- and that capability is the one of which it is the opener
   shows-opener : (a b i : ℕ)

@@ -7,6 +7,7 @@ use native.Mathlib.Omega.{arith}
 use lib.Dec.{eqb, leb}
 use lib.Bits.{bitAnd, and-self, and-comm, and-le-l}
 use borrow.Author.Tests.{leb-true, eq-eqb}
+use Rattle.rules.specs.Limit as Limit
 use Rattle.rules.specs.Store.{Window, Cap, State}
 use Rattle.rules.specs.Valid.{Lives, LiesIn, Caps, Formed}
 use Rattle.rules.specs.Rights.{both, deriveCap, presents}
@@ -17,7 +18,7 @@ use Rattle.rules.specs.Changes.{newCap}
 use Rattle.rules.specs.Calls.{nearest, moved, p1Taken, deriveCapRefuses, child, deriveCapDoes, refuses}
 use Rattle.rules.specs.Ledger.{Ledger, balance, newLine, entry}
 use Rattle.rules.specs.Demand.{Words, FreeCap}
-use Rattle.rules.proofs.Tests.{both-true, all2, not-lives}
+use Rattle.rules.proofs.Tests.{both-true, all3, not-lives}
 use Rattle.rules.proofs.Bitwise.{and-assoc}
 use Rattle.rules.proofs.Slots.{some-none}
 use Rattle.rules.proofs.Forest.{not-zero}
@@ -83,7 +84,7 @@ module _ (s : State) (G : Formed s) (c : Call) (me k : ℕ) (W : Words c) (r : R
   unfolding child FreeCap argumentsFit ordered refuses deriveCapRefuses _when_ both
   joins =
       let w = G .caps .live k giver in
-      let a = all2 (leb (c .rights) 8191) (leb (c .range .start) (c .range .end)) (r .fits) in
+      let a = all3 (leb (c .rights) Limit.rights) (leb (c .range .start) (c .range .end)) (leb (c .lastDay) Limit.day) (r .fits) in
       record {
         fits = record {
           some = F .0;
@@ -99,6 +100,7 @@ module _ (s : State) (G : Formed s) (c : Call) (me k : ℕ) (W : Words c) (r : R
           object = refl;
           rights = both-in (s .cap k .rights) (c .rights);
           window = moved-in (c .range) (s .cap k .window) (w .ordered);
+          lastDay = omega arith;
         };
         fresh = not-taken s c me k (G .caps) (r .none .0);
         only = λ z. absurd (up z);

@@ -9,6 +9,7 @@ use lib.Dec.{eqb}
 use lib.ListN.{length, take, drop}
 use lib.Bits.{bitXor}
 use borrow.Author.Tests.{eqb-true, eq-eqb}
+use Rattle.rules.specs.Limit as Limit
 use Rattle.rules.specs.Store.{Lockword, Message, Object, State, noObject, descends, sumsIn}
 use Rattle.rules.specs.Valid.{Lives, Formed}
 use Rattle.rules.specs.Rights.{Op, makeObj, read, write, capInfo, deriveCap, deleteCap, renameObj, withdraw}
@@ -131,6 +132,7 @@ module _ {m : Maps} (s t : State) (S : Formed s) (T : Formed t) (A : CarriedBy m
           password = c .drawn;
           window = record { start = 0; end = c .size };
           rights = c .rights;
+          lastDay = Limit.day;
         }
 
     make-alike : Alike (makeObjDoes s c me k h) (makeObjDoes t c me′ k′ g)
@@ -210,6 +212,7 @@ module _ {m : Maps} (s t : State) (S : Formed s) (T : Formed t) (A : CarriedBy m
           password = c .drawn;
           window = moved (c .range) (x d .window);
           rights = both (x d .rights) (c .rights);
+          lastDay = min (c .lastDay) (x d .lastDay);
         }
 
     derive-alike : (h g : Choice) → FreeCap s (h .cap) → FreeCap t (g .cap)
@@ -299,6 +302,7 @@ module _ {m : Maps} (s t : State) (S : Formed s) (T : Formed t) (A : CarriedBy m
           password = c .drawn;
           window = x d .window;
           rights = x d .rights;
+          lastDay = Limit.day;
         }
 
     rename-alike : (h g : Choice) → FreeCap (emptied s c me k) (h .cap) → FreeCap (emptied t c me′ k′) (g .cap)

@@ -20,6 +20,7 @@ use Rattle.rules.proofs.Link.{Linking}
 use Rattle.rules.proofs.Ending.{end-cap, stay-cap, stay-money, not-ended, still}
 use Rattle.rules.proofs.Ready.{ready}
 use Rattle.rules.proofs.Deleting.{delete-by}
+use Rattle.rules.proofs.Outcomes.{host-not}
 use Rattle.rules.proofs.Answers.{done-by}
 use Rattle.rules.proofs.Steps.{line-found}
 use Rattle.rules.proofs.Claims.{match-lives, num-match, match-leads}
@@ -58,7 +59,7 @@ module _ (s : State) (l : Ledger) (G : Formed s) (K : Linking s l) (c : Call) wh
 
   found-delete : (h : Choice) → op (c .number) ≡ deleteCap → isDone (rule s c h) ≡ true → Found (rule s c h .after)
   unfolding paid toHouse spend withCash withHouse presented capLives does presents
-  found-delete h q = done-by s c h (λ r. Found (r .after)) (λ e f.
+  found-delete h q = done-by s c h (λ r. Found (r .after)) (λ z. host-not (c .number) z q refl) (λ e f.
       let p : presents (op (c .number)) ≡ true = ap presents q in
       record {
         alive = ready s c (G .objects) e f .shown p .lives;

@@ -21,6 +21,7 @@ child-self x = record {
   object = refl;
   rights = and-self (x .rights);
   window = record { start = omega arith; end = omega arith };
+  lastDay = omega arith;
 }
 
 child-trans : {x y z : Cap} → ChildIn x y → ChildIn y z → ChildIn x z
@@ -35,6 +36,7 @@ child-trans {x} {y} {z} a b = record {
     start = omega (arith, a .window .start, b .window .start);
     end = omega (arith, a .window .end, b .window .end);
   };
+  lastDay = omega (arith, a .lastDay, b .lastDay);
 }
 
 module _ (s : State) (C : Caps (s .object) (s .cap)) where

@@ -47,6 +47,7 @@ module _ (supply : ℕ) (p : Password) (W : FreshWords supply p) where
     password = p;
     window = noWindow;
     rights = Limit.rights;
+    lastDay = Limit.day;
   }
 
   -- it has one object and one capability
@@ -100,7 +101,7 @@ module _ (supply : ℕ) (p : Password) (W : FreshWords supply p) where
 
   is-master : IsMaster Limit.objects (fresh supply p .object Limit.objects .size) (fresh supply p .cap Limit.caps)
   unfolding fresh noWindow at
-  is-master = record { of = refl; parent = refl; start = refl; end = refl }
+  is-master = record { of = refl; parent = refl; start = refl; end = refl; lastDay = refl }
 
   formed : Formed (fresh supply p)
   formed = formed-of sound (λ o e.
@@ -118,7 +119,8 @@ module _ (supply : ℕ) (p : Password) (W : FreshWords supply p) where
       )
 
   pub valid-fresh : Valid (fresh supply p)
-  valid-fresh = record { formed = formed; total = omega (arith, total, W .amount) }
+  unfolding fresh
+  valid-fresh = record { formed = formed; total = omega (arith, total, W .amount); day = omega arith }
 
   -- ---- the ledger: line 1 is of the master's slot
 

@@ -32,6 +32,7 @@ pub mod Answers
 pub mod Bytes
 pub mod Done
 pub mod Steps
+pub mod Day
 pub mod Undoing
 -- lists of calls
 pub mod Fresh

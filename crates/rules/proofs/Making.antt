@@ -138,7 +138,7 @@ module _ (s : State) (G : Formed s) (c : Call) (me k : ℕ) (W : Words c) (r : R
 
   is-master : IsMaster (h .object) (c .size) (madeMaster s c me k (h .object))
   unfolding madeMaster
-  is-master = record { of = refl; parent = refl; start = refl; end = refl }
+  is-master = record { of = refl; parent = refl; start = refl; end = refl; lastDay = refl }
 
   mastered : Mastered (at (s .object) (h .object) (madeObject s c me k))
       (at (s .cap) (h .cap) (madeMaster s c me k (h .object)))

@@ -101,6 +101,7 @@ module _ {m : Maps} (s t : State) (S : Formed s) (T : Formed t) (A : CarriedBy m
     password = noPassword;
     window = noWindow;
     rights = 0;
+    lastDay = 0;
   }
 
   module _ (i : ℕ) (h : i ≢ 0 → Lives (s .cap) i) where
@@ -147,6 +148,7 @@ module _ {m : Maps} (s t : State) (S : Formed s) (T : Formed t) (A : CarriedBy m
         password = x d .password;
         window = x d .window;
         rights = x d .rights;
+        lastDay = x d .lastDay;
         moneyword = w d;
         master = b d;
         parent = p d;
@@ -157,7 +159,7 @@ module _ {m : Maps} (s t : State) (S : Formed s) (T : Formed t) (A : CarriedBy m
   cap-same n p1 = ap (capAt t) (cap-carried s t S T A n p1) ∙ cap-at (capNamed s n p1) (cap-live s n p1)
 
   pub same-meaning : SameMeaning s t
-  same-meaning = record { house = A .house; objects = object-same; caps = cap-same }
+  same-meaning = record { house = A .house; day = A .day; objects = object-same; caps = cap-same }
 
   -- ---- and have the same money
 

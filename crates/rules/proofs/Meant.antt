@@ -140,11 +140,12 @@ module _ (s t : State) (S : Formed s) (T : Formed t) (H : SameMeaning s t) where
 -- ---- one way and back
 
 pub same-self : (s : State) → SameMeaning s s
-same-self s = record { house = refl; objects = λ n. refl; caps = λ n p. refl }
+same-self s = record { house = refl; day = refl; objects = λ n. refl; caps = λ n p. refl }
 
 pub same-sym : (s t : State) → SameMeaning s t → SameMeaning t s
 same-sym s t H = record {
   house = sym (H .house);
+  day = sym (H .day);
   objects = λ n. sym (H .objects n);
   caps = λ n p. sym (H .caps n p);
 }
@@ -210,6 +211,7 @@ module _ (s t : State) (S : Formed s) (T : Formed t) (H : SameMeaning s t) where
         password = x d .password;
         window = x d .window;
         rights = x d .rights;
+        lastDay = x d .lastDay;
       }
 
   moves : Moves maps (s .object) (t .object) (s .cap) (t .cap)
@@ -238,6 +240,7 @@ module _ (s t : State) (S : Formed s) (T : Formed t) (H : SameMeaning s t) where
     by = record {
       moves = moves;
       house = H .house;
+      day = H .day;
       bytes = λ o h. ap (λ (x : ObjectSeen). x .bytes) (seen o h);
       lock = λ o h. ap (λ (x : ObjectSeen). x .lock) (seen o h);
       cash = λ o h. ap (λ (x : ObjectSeen). x .cash) (seen o h);

@@ -146,7 +146,7 @@ module _ (s : State) (c : Call) where
   pub stopper : Objects (s .object) → early s c ≡ Code.cannotPay → Process (s .object) (caller s c)
   stopper O e = runner O (early-four e) .0
 
--- ---- 5 and 6
+-- ---- 5, 19 and 6
 
 module _ (s : State) (k : ℕ) (o : Op) where
   pub presenting-some : presents o ≡ true → presenting s k o ≡ showing s k (asked o)
@@ -174,7 +174,7 @@ module _ (s : State) (k : ℕ) (o : Op) where
   pub slot-shown : presents o ≡ true → first (presenting s k o) ≡ 0 → k ≢ 0
   slot-shown p e = some-shown p (unmet-shown e)
 
--- ---- 5, 6 and the call's own
+-- ---- 5, 19, 6 and the call's own
 
 module _ (s : State) (c : Call) (me k : ℕ) where
   late-numbers : (o : Op) → numbers (λ n. ltb 4 n) (presenting s k o ++ refuses s c me k o) ≡ true
@@ -213,7 +213,7 @@ late-high s c k h =
     ltb-true _ _ (first-in (λ n. ltb 4 n) (presenting s k o ++ refuses s c (caller s c) k o)
     (late-numbers s c (caller s c) k o) h)
 
--- 5 or 6 where one is met, else the first of the call's own
+-- 5, 19 or 6 where one is met, else the first of the call's own
 module _ (s : State) (c : Call) (k : ℕ) where
   abbrev shows : List Refusal
   shows = presenting s k (op (c .number))

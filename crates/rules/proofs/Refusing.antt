@@ -1,4 +1,4 @@
--- Two carried states refuse alike: 2 to 4, 5 and 6, and each call's own.
+-- Two carried states refuse alike: 2 to 4, 5, 19 and 6, and each call's own.
 use Prim.Native.Nat.{ℕ, _+_}
 use mathlib.Core.Path.{_≡_, refl, sym, ap, ap₂, _∙_}
 use mathlib.Core.Logic.{_≢_}
@@ -16,7 +16,7 @@ use Rattle.rules.specs.Rights.{has, Op, makeObj, read, write, capInfo, d
 use Rattle.rules.specs.Rights.{deposit, suspend, resume, applyLock, send, receive, wait, revive, unknown, feeOf}
 use Rattle.rules.specs.Rights.{asked, presents}
 use Rattle.rules.specs.Call.{Call}
-use Rattle.rules.specs.Refusals.{Refusal, _when_, first, inRange, caller, running, early, presenting, showing}
+use Rattle.rules.specs.Refusals.{Refusal, _when_, first, inRange, caller, running, early, expired, presenting, showing}
 use Rattle.rules.specs.Calls.{liesIn, p1Taken, makeObjRefuses, transferRefuses, deriveCapRefuses, renameObjRefuses}
 use Rattle.rules.specs.Calls.{withdrawRefuses, depositRefuses, processRefuses, sendRefuses, receiveRefuses}
 use Rattle.rules.specs.Calls.{reviveRefuses, refuses}
@@ -36,8 +36,7 @@ eqb-same a b c d f g = bool-same (eqb a b) (eqb c d)
 five : (s : State) (k : ℕ) (o : Op) (l : List Refusal) → presents o ≡ true → k ≡ 0 → first (presenting s k o ++ l) ≡ Code.notFound
 unfolding presenting showing first _when_
 five s k o l p z =
-    let r : List Refusal = Code.notFound when eqb k 0 ∷ Code.rightMissing when not (has (s .cap k .rights) (asked o)) ∷ [] in
-    ap (λ x. first (x ++ l)) (pick-yes (presents o) r [] p) ∙ pick-yes (eqb k 0) Code.notFound _ (eq-eqb k 0 z)
+    ap (λ x. first (x ++ l)) (pick-yes (presents o) (showing s k (asked o)) [] p) ∙ pick-yes (eqb k 0) Code.notFound _ (eq-eqb k 0 z)
 
 module _ {m : Maps} (s t : State) (S : Formed s) (T : Formed t) (A : CarriedBy m s t) (c : Call) where
   -- ---- 2 to 4
@@ -128,15 +127,19 @@ module _ {m : Maps} (s t : State) (S : Formed s) (T : Formed t) (A : CarriedBy m
           ∙ any-map (m .cap) (λ i. g (s .money i)) (λ i. g (t .money i)) (path s k)
           (λ i o. ap g (A .money i (path-lives s (S .caps) k i h o)))
 
-      -- ---- 6, and the calls' own
+      -- ---- 5, 19 and 6, and the calls' own
 
       presenting-same : (o : Op) → presenting t k′ o ≡ presenting s k o
-      unfolding presenting showing
+      unfolding presenting showing expired
       presenting-same o =
           let a : eqb k′ 0 ≡ eqb k 0 = ap (λ x. eqb x 0) k-is ∙ zero-same (m .cap) (A .moves .no-cap) k some in
-          let b = ap (λ (x : Cap). x .rights) cap-k in
+          let x = cap-k in
+          let y = A .day in
           λ d. elim (presents o) [
-            | true ↦ Code.notFound when a d ∷ Code.rightMissing when not (has (b d) (asked o)) ∷ []
+            | true ↦ Code.notFound when a d
+                ∷ Code.expired when ltb (x d .lastDay) (y d)
+                ∷ Code.rightMissing when not (has (x d .rights) (asked o))
+                ∷ []
             | false ↦ []
           ]
         where

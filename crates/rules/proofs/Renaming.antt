@@ -99,7 +99,7 @@ module _ (s : State) (G : Formed s) (c : Call) (me k : ℕ) (W : Words c) (r : R
 
   new-master : IsMaster (s .cap k .object) (s .object (s .cap k .object) .size) (newMaster s c me k)
   unfolding newMaster
-  new-master = let m = is-master in record { of = refl; parent = refl; start = m .start; end = m .end }
+  new-master = let m = is-master in record { of = refl; parent = refl; start = m .start; end = m .end; lastDay = refl }
 
   mastered : Mastered (s .object) (at (emptied s c me k .cap) (h .cap) (newMaster s c me k))
   unfolding emptied

@@ -15,6 +15,7 @@ use Rattle.rules.specs.Theorems.{AllWords}
 use Rattle.rules.proofs.Tests.{by-bool}
 use Rattle.rules.proofs.Link.{Linking}
 use Rattle.rules.proofs.Steps.{keep-step, link-step}
+use Rattle.rules.proofs.Day.{day-step}
 use Rattle.rules.proofs.Fresh.{valid-fresh, link-fresh}
 use Rattle.rules.proofs.Ended.{ended}
 use Rattle.rules.proofs.Choices.{choose}
@@ -24,7 +25,7 @@ use Rattle.rules.proofs.Choices.{choose}
 pub valid-step : (s : State) (c : Call) (h : Choice) → Valid s → Allowed s c h → Valid (rule s c h .after)
 valid-step s c h v A =
     let k = keep-step s (v .formed) c h A in
-    record { formed = k .formed; total = omega (arith, k .total, v .total) }
+    record { formed = k .formed; total = omega (arith, k .total, v .total); day = day-step s c h (v .day) }
 
 -- ---- the invariant of a run
 

@@ -8,8 +8,9 @@ use mathlib.Core.List.{List, []}
 use native.Mathlib.Omega.{arith}
 use lib.ListN.{length}
 use Rattle.rules.specs.Store.{Lockword, Marks, Message, Object, Cap, State, noLockword, noMarks, moneyIn}
+use Rattle.rules.specs.Store.{allCash, allMasters, allBoxes}
 use Rattle.rules.specs.Valid.{Objects, Caps, IsMaster, ProcessOnly, LockwordFits, BoxFits, Formed}
-use Rattle.rules.specs.Update.{withHouse, withBytes, withLock, withCash, withMarks, withBox, withCap, withMoney}
+use Rattle.rules.specs.Update.{withHouse, withDay, withBytes, withLock, withCash, withMarks, withBox, withCap, withMoney}
 
 -- ---- the parts
 
@@ -92,6 +93,10 @@ module _ {s : State} (S : Sound s) where
   unfolding withHouse
   sound-house x = parts (S .objects) (S .caps) (S .bytes) (S .lock) (S .cash) (S .marks) (S .box) (S .money)
 
+  pub sound-day : (x : ℕ) → Sound (withDay s x)
+  unfolding withDay
+  sound-day x = parts (S .objects) (S .caps) (S .bytes) (S .lock) (S .cash) (S .marks) (S .box) (S .money)
+
   pub sound-bytes : (f : ℕ → List ℕ) → Bytes (s .object) f → Sound (withBytes s f)
   unfolding withBytes
   sound-bytes f h = parts (S .objects) (S .caps) h (S .lock) (S .cash) (S .marks) (S .box) (S .money)
@@ -130,6 +135,11 @@ pub record Kept (s r : State) : Type 0 where
 -- nothing changed
 pub kept-same : {s : State} → Formed s → Kept s s
 kept-same G = record { formed = G; total = refl }
+
+-- the day is looked at by none of this
+pub kept-day : {s : State} → Formed s → (x : ℕ) → Kept s (withDay s x)
+unfolding withDay moneyIn allCash allMasters allBoxes
+kept-day G x = record { formed = formed-of (sound-day (sound-of G) x) (G .master); total = refl }
 
 -- one change after another
 pub kept-then : {s r q : State} → Kept s r → Kept r q → Kept s q

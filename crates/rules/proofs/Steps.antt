@@ -9,22 +9,22 @@ use Rattle.rules.specs.Store.{State, capLives}
 use Rattle.rules.specs.Valid.{Formed}
 use Rattle.rules.specs.Rights.{Op, makeObj, read, write, capInfo, deriveCap, deleteCap, renameObj, withdraw}
 use Rattle.rules.specs.Rights.{deposit, suspend, resume, applyLock, send, receive, wait, revive, unknown, op}
-use Rattle.rules.specs.Rights.{feeOf, presents}
-use Rattle.rules.specs.Call.{Call, Outcome, Choice, code}
+use Rattle.rules.specs.Rights.{feeOf, asked, presents, dayNumber}
+use Rattle.rules.specs.Call.{Call, Outcome, Choice, code, done}
 use Rattle.rules.specs.Password.{presented}
-use Rattle.rules.specs.Refusals.{caller, early}
-use Rattle.rules.specs.Update.{withHouse, withCash, withMarks, withCap, withMoney}
+use Rattle.rules.specs.Refusals.{first, caller, early}
+use Rattle.rules.specs.Update.{withHouse, withDay, withCash, withMarks, withCap, withMoney}
 use Rattle.rules.specs.Changes.{spend, toHouse, setTerminated, endWhere}
 use Rattle.rules.specs.Calls.{emptied}
-use Rattle.rules.specs.Rule.{stopped, paid, late, rule, isDone}
+use Rattle.rules.specs.Rule.{stopped, paid, late, dayRefuses, dayRule, rule, isDone}
 use Rattle.rules.specs.Ledger.{Ledger, found, newLine, entry, book}
 use Rattle.rules.specs.Demand.{FreeObject, FreeCap, Open, Allowed}
 use Rattle.rules.proofs.Tests.{by-bool, pick-not}
-use Rattle.rules.proofs.Sound.{Kept, kept-same, kept-then}
+use Rattle.rules.proofs.Sound.{Kept, kept-same, kept-day, kept-then}
 use Rattle.rules.proofs.Link.{Linking, num-some}
 use Rattle.rules.proofs.Presenting.{found-num}
 use Rattle.rules.proofs.Ready.{payer, stopper, slotOf, ready}
-use Rattle.rules.proofs.Outcomes.{stopped-by, done-out, rule-by}
+use Rattle.rules.proofs.Outcomes.{host-op, host-presents, stopped-by, done-out, rule-by, day-by}
 use Rattle.rules.proofs.Keeping.{keep-fee, keep-mark}
 use Rattle.rules.proofs.Answers.{refused-not, is-done}
 use Rattle.rules.proofs.Done.{Takes, keeps, links}
@@ -90,11 +90,17 @@ module _ (s : State) (G : Formed s) (c : Call) where
   unfolding setTerminated
   keep-stopped = stopped-by s c (Kept s) (λ e. keep-mark s G (caller s c) (stopper s c (G .objects) e) _) (kept-same G)
 
+  -- the day is no part of what is kept
+  keep-day : Kept s (dayRule s c .after)
+  unfolding done
+  keep-day = day-by s c (λ r. Kept s (r .after)) (λ _. kept-same G) (λ _. kept-day G (c .day))
+
   pub keep-step : (h : Choice) → Allowed s c h → Kept s (rule s c h .after)
   keep-step h A = rule-by s c h (λ r. (isDone r ≡ true → Open s c h) → Kept s (r .after))
-      (λ n q. keep-stopped)
-      (λ e n q. keep-paid e)
-      (λ e f q.
+      (λ _ q. keep-day)
+      (λ _ n q. keep-stopped)
+      (λ _ e n q. keep-paid e)
+      (λ _ e f q.
       let P = keep-paid e in
       kept-then P (keeps (paid s c) (P .formed) c (caller s c) (slotOf s c) h (A .words) (op (c .number))
       (ready s c (G .objects) e f) (open-takes s c h (q (is-done s c h e)))))
@@ -131,12 +137,19 @@ module _ (s : State) (G : Formed s) (c : Call) where
     unfolding book
     beside-refused n r d L = subst (Linking r) (sym (ap (book l c) (refused-not n r d))) L
 
+    -- call 17 books nothing
+    beside-day : c .number ≡ dayNumber → Beside (dayRule s c)
+    unfolding done code isDone withDay book presents asked entry
+    beside-day z = day-by s c Beside (λ n. beside-refused (first (dayRefuses s (c .day))) s n K)
+        (λ _. subst (Linking s) (sym (booked l c 0 (λ p. absurd (host-presents (c .number) z p)) ∙ ap (entry l c 0) (host-op (c .number) z))) K)
+
     pub link-step : (h : Choice) → Allowed s c h → Linking (rule s c h .after) (book l c (isDone (rule s c h)))
     unfolding paid toHouse spend withCash withHouse
     link-step h A = rule-by s c h (λ r. (isDone r ≡ true → Open s c h) → Beside r)
-        (λ n q. beside-refused (early s c) (stopped s c (early s c)) n link-stopped)
-        (λ e n q. beside-refused (late (paid s c) c (slotOf s c)) (paid s c) n K)
-        (λ e f q.
+        (λ z q. beside-day z)
+        (λ _ n q. beside-refused (early s c) (stopped s c (early s c)) n link-stopped)
+        (λ _ e n q. beside-refused (late (paid s c) c (slotOf s c)) (paid s c) n K)
+        (λ _ e f q.
         let L = links (paid s c) (keep-paid e .formed) c (caller s c) (slotOf s c) h (A .words) l K (op (c .number))
         (ready s c (G .objects) e f) (open-takes s c h (q (is-done s c h e))) in
         subst (Linking (done-out s c h .after)) (sym (ap (book l c) (is-done s c h e) ∙ booked-done e f)) L)

@@ -10,7 +10,7 @@ use lib.ListN.{length, take, drop}
 use Rattle.rules.specs.Slots.{at}
 use Rattle.rules.specs.Store.{Name, Window, Apart, Object, State, objectNamed}
 use Rattle.rules.specs.Valid.{Formed}
-use Rattle.rules.specs.Rights.{Op, read, write, op, presents}
+use Rattle.rules.specs.Rights.{Op, read, write, op, presents, dayNumber}
 use Rattle.rules.specs.Call.{Call, Choice, Outcome, done, handsOver}
 use Rattle.rules.specs.Refusals.{caller}
 use Rattle.rules.specs.Update.{withHouse, withCash, withBytes}
@@ -23,6 +23,7 @@ use Rattle.rules.proofs.Slots.{at-here, at-else}
 use Rattle.rules.proofs.Sound.{object-some}
 use Rattle.rules.proofs.Presenting.{Shown, named, named-is, found-live}
 use Rattle.rules.proofs.Ready.{Ready, slotOf, ready}
+use Rattle.rules.proofs.Outcomes.{ofProcess, host-not}
 use Rattle.rules.proofs.Answers.{done-by}
 use Rattle.rules.proofs.Keeping.{WriteFits, write-fits}
 use Rattle.rules.proofs.Steps.{keep-paid, keep-step}
@@ -79,15 +80,18 @@ module _ (s : State) (G : Formed s) (c : Call) (h : Choice) where
   k = slotOf s c
 
   -- where it is done, and of this kind
-  module _ (o : Op) (is : op (c .number) ≡ o) (done : isDone (rule s c h) ≡ true) where
+  module _ (o : Op) (is : op (c .number) ≡ o) (of : ofProcess o ≡ true) (done : isDone (rule s c h) ≡ true) where
+    process : c .number ≢ dayNumber
+    process e = host-not (c .number) e is of
+
     is-ready : Ready (paid s c) c me k o
-    is-ready = subst (Ready (paid s c) c me k) is (done-by s c h (λ _. Ready (paid s c) c me k (op (c .number))) (λ e f. ready s c (G .objects) e f) done)
+    is-ready = subst (Ready (paid s c) c me k) is (done-by s c h (λ _. Ready (paid s c) c me k (op (c .number))) process (λ e f. ready s c (G .objects) e f) done)
 
     outcome : rule s c h ≡ does (paid s c) c me k h o
-    outcome = done-by s c h (λ r. r ≡ does (paid s c) c me k h o) (λ e f. ap (does (paid s c) c me k h) is) done
+    outcome = done-by s c h (λ r. r ≡ does (paid s c) c me k h o) process (λ e f. ap (does (paid s c) c me k h) is) done
 
     paid-formed : Formed (paid s c)
-    paid-formed = done-by s c h (λ _. Formed (paid s c)) (λ e f. keep-paid s G c e .formed) done
+    paid-formed = done-by s c h (λ _. Formed (paid s c)) process (λ e f. keep-paid s G c e .formed) done
 
   -- a done write leaves its text in its range
   pub write-leaves : op (c .number) ≡ write → isDone (rule s c h) ≡ true
@@ -95,12 +99,12 @@ module _ (s : State) (G : Formed s) (c : Call) (h : Choice) where
   unfolding does writeDoes done withBytes objectNamed presents
   write-leaves is done =
       let t : State = paid s c in
-      let F = paid-formed write is done in
-      let R = is-ready write is done in
+      let F = paid-formed write is refl done in
+      let R = is-ready write is refl done in
       let o : ℕ = t .cap k .object in
       let found = target-named t F c me k (R .shown refl) in
       subst (λ (r : Outcome). (objectNamed (r .after) n ≢ 0) × (rangeOf (r .after) n (c .range) ≡ c .text))
-      (sym (outcome write is done)) (
+      (sym (outcome write is refl done)) (
         λ z. object-some (F .objects) o (F .caps .live k (R .shown refl .lives) .owned) (sym found ∙ z),
         ap (λ i. partOf (c .range) (at (t .bytes) o (written t c me k (t .bytes o)) i)) found
             ∙ ap (partOf (c .range)) (at-here (t .bytes) o (written t c me k (t .bytes o)))
@@ -113,9 +117,9 @@ module _ (s : State) (G : Formed s) (c : Call) (h : Choice) where
   unfolding does readDoes handsOver presents paid toHouse spend withCash withHouse objectNamed
   read-gives is done =
       let t : State = paid s c in
-      ap (λ (r : Outcome). r .answer .bytes) (outcome read is done)
+      ap (λ (r : Outcome). r .answer .bytes) (outcome read is refl done)
       ∙ ap (λ i. partOf (c .range) (s .bytes i))
-      (sym (target-named t (paid-formed read is done) c me k (is-ready read is done .shown refl)))
+      (sym (target-named t (paid-formed read is refl done) c me k (is-ready read is refl done .shown refl)))
 
   -- any call keeps a range of an object that lives on, unless it is a done write of some byte of it
   module _ (A : Allowed s c h) (m : Name) (v : Window)
@@ -149,12 +153,12 @@ module _ (s : State) (G : Formed s) (c : Call) (h : Choice) where
     unfolding paid toHouse spend withCash withHouse presents
     written-part is done =
         let o : ℕ = s .cap k .object in
-        let R = is-ready write is done in
+        let R = is-ready write is refl done in
         let xs : List ℕ = written (paid s c) c me k (s .bytes o) in
         by-eq q o
         (λ e. ap (λ i. partOf v (at (s .bytes) o xs i)) e
         ∙ ap (partOf v) (at-here (s .bytes) o xs)
-        ∙ written-apart (paid s c) (paid-formed write is done) c me k R v
+        ∙ written-apart (paid s c) (paid-formed write is refl done) c me k R v
         (spares is done (sym (R .shown refl .name) ∙ ap (λ i. s .object i .name) (sym e) ∙ named s m lives))
         ∙ ap (λ i. partOf v (s .bytes i)) (sym e))
         (λ ne. ap (partOf v) (at-else (s .bytes) o xs q ne))

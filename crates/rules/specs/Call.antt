@@ -34,6 +34,9 @@ pub record Call : Type 0 where
   pub scratch : ℕ
   -- derive_cap: the most that the child's moneyword is (02, CR 1)
   pub limit : ℕ
+  -- derive_cap: the most that the child's last day is; of call 17, the new day (02, CR 9)
+  pub lastDay : ℕ
+  pub day : ℕ
 
 -- `code` is 0 for a done call, or the refusal. `capability` is a new one; `length` and `moneyword` are cap_info's; `sum`
 -- is receive's; `bytes` go to the buffer's front. A field that a call does not use is 0, or no bytes.

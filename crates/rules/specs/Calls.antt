@@ -61,7 +61,7 @@ module _ (s : State) (c : Call) (me k : ℕ) where
   unfoldable pub madeObject : Object
   madeObject = record { live = true; name = c .name; size = c .size; process = eqb (c .flag) 1 }
 
-  -- its master has the whole window, moneyword 0 and the rights given
+  -- its master has the whole window, moneyword 0 and the rights given; 02, CR 9: a master's last day is 65,535
   unfoldable pub madeMaster : ℕ → Cap
   madeMaster o = record {
     object = o;
@@ -69,6 +69,7 @@ module _ (s : State) (c : Call) (me k : ℕ) where
     password = c .drawn;
     window = record { start = 0; end = c .size };
     rights = c .rights;
+    lastDay = Limit.day;
   }
 
   unfoldable pub makeObjDoes : Choice → Outcome
@@ -99,7 +100,8 @@ module _ (s : State) (c : Call) (me k : ℕ) where
   unfoldable pub deriveCapRefuses : List Refusal
   deriveCapRefuses = Code.taken when p1Taken ∷ Code.noSpace when leb Limit.caps (capsLive s) ∷ []
 
-  -- the rights in both sets, and each end of the range moved to the nearest point of the parent's window
+  -- the rights in both sets, and each end of the range moved to the nearest point of the parent's window; 02, CR 9: the
+  -- smaller of the last day given and the parent's
   unfoldable pub child : Cap
   child = record {
     object = target;
@@ -107,6 +109,7 @@ module _ (s : State) (c : Call) (me k : ℕ) where
     password = c .drawn;
     window = moved (c .range) (s .cap k .window);
     rights = both (s .cap k .rights) (c .rights);
+    lastDay = min (c .lastDay) (s .cap k .lastDay);
   }
 
   -- 02, CR 1: the child's moneyword is the smaller of the limit and the parent's moneyword
@@ -138,7 +141,7 @@ module _ (s : State) (c : Call) (me k : ℕ) where
   unfoldable pub emptied : State
   emptied = endWhere s (λ i. eqb (s .cap i .object) target)
 
-  -- a new master has the old one's window and rights
+  -- a new master has the old one's window and rights, and a master's last day
   unfoldable pub newMaster : Cap
   newMaster = record {
     object = target;
@@ -146,6 +149,7 @@ module _ (s : State) (c : Call) (me k : ℕ) where
     password = c .drawn;
     window = s .cap k .window;
     rights = s .cap k .rights;
+    lastDay = Limit.day;
   }
 
   -- and its moneyword

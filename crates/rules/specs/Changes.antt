@@ -59,6 +59,7 @@ endWhere s test = withMoney
 unfoldable pub newObject : State → ℕ → Object → State
 newObject s o x = record {
   house = s .house;
+  day = s .day;
   object = at (s .object) o x;
   bytes = at (s .bytes) o (replicate (x .size) 0);
   lock = at (s .lock) o noLockword;

@@ -76,3 +76,11 @@ wrongLength = 17
 -- 02, CR 7: "the count would pass 4,294,967,295"
 abbrev pub countPasses : ℕ
 countPasses = 18
+
+-- 02, CR 9: "the store's day is after the capability's last day"
+abbrev pub expired : ℕ
+expired = 19
+
+-- "the new day is before the store's"
+abbrev pub earlierDay : ℕ
+earlierDay = 20

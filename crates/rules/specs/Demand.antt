@@ -1,4 +1,4 @@
--- Demand 3: a single claim about a list of calls, of the 16 and of unknown numbers, done or refused.
+-- Demand 3: a single claim about a list of calls, of the 16, of call 17 (02, CR 9) and of unknown numbers, done or refused.
 use Prim.Native.Nat.{ℕ, _+_, _≤_}
 use mathlib.Core.Path.{_≡_}
 use mathlib.Core.Logic.{_↔_}
@@ -107,12 +107,14 @@ pub record Match (n : Now) (i k : ℕ) : Type 0 where
   pub name : n .store .object (n .store .cap i .object) .name ≡ n .ledger .line k .name
   pub password : n .store .cap i .password ≡ n .ledger .line k .password
 
--- the holder's capability at j lies in the giver's at i: one object, one tree and so one purse, rights and window
+-- the holder's capability at j lies in the giver's at i: one object, one tree and so one purse, rights, window and
+-- last day
 pub record Within (s : State) (j i : ℕ) : Type 0 where
   pub object : s .cap j .object ≡ s .cap i .object
   pub tree : rootOf s j ≡ rootOf s i
   pub rights : bitAnd (s .cap j .rights) (s .cap i .rights) ≡ s .cap j .rights
   pub window : LiesIn (s .cap j .window) (s .cap i .window)
+  pub lastDay : s .cap j .lastDay ≤ s .cap i .lastDay
 
 -- slot m holds the master of the capability at i
 pub record Rooted (s : State) (i m : ℕ) : Type 0 where

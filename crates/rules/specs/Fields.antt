@@ -11,7 +11,7 @@ use Rattle.rules.specs.Rights.{deposit, suspend, resume, applyLock, send
 pub data Field : Type 0 where
   callNumber callerVolume callerSerial : Field
   capVolume capSerial capP1 capP2 : Field
-  volume size flag rights serial p1 p2 start end sum word1 word2 text limit : Field
+  volume size flag rights serial p1 p2 start end sum word1 word2 text limit lastDay day : Field
 
 -- a call holds derive's mask where it holds make_obj's rights
 abbrev pub mask : Field
@@ -27,13 +27,13 @@ calling arguments = callNumber ∷ callerVolume ∷ callerSerial ∷ arguments
 unfoldable pub presenting : List Field → List Field
 presenting arguments = calling (capVolume ∷ capSerial ∷ capP1 ∷ capP2 ∷ arguments)
 
--- "then arguments"; 02, CR 1: derive_cap's limit stands "after the range's end"
+-- "then arguments"; 02, CR 1: derive_cap's limit stands "after the range's end"; CR 9: its last day "after the limit"
 unfoldable pub fields : Op → List Field
 fields makeObj = calling (volume ∷ size ∷ flag ∷ rights ∷ serial ∷ p1 ∷ p2 ∷ [])
 fields read = presenting (start ∷ end ∷ [])
 fields write = presenting (start ∷ end ∷ text ∷ [])
 fields capInfo = presenting []
-fields deriveCap = presenting (mask ∷ start ∷ end ∷ limit ∷ p1 ∷ p2 ∷ [])
+fields deriveCap = presenting (mask ∷ start ∷ end ∷ limit ∷ lastDay ∷ p1 ∷ p2 ∷ [])
 fields deleteCap = presenting []
 fields renameObj = presenting (p1 ∷ p2 ∷ [])
 fields withdraw = presenting (sum ∷ [])
@@ -45,8 +45,8 @@ fields send = presenting (sum ∷ text ∷ [])
 fields receive = calling []
 fields wait = calling []
 fields revive = presenting (sum ∷ [])
--- no line is of an unknown call
-fields unknown = []
+-- 02, CR 9: "the script line is `17` and the day"; no other number has a line
+fields unknown = callNumber ∷ day ∷ []
 
 -- ---- places, counted from 0
 
@@ -73,6 +73,8 @@ index word1 = 17
 index word2 = 18
 index text = 19
 index limit = 20
+index lastDay = 21
+index day = 22
 
 -- the place of a field where the first of these has place k
 unfoldable pub placeFrom : ℕ → List Field → Field → ℕ

@@ -141,6 +141,7 @@ module _ (l : Ledger) (c : Call) (k : ℕ) where
   entry receive = l
   entry wait = l
   entry revive = l
+  -- 02, CR 9: call 17 "changes nothing in the ledger"
   entry unknown = l
 
 -- a refused call changes nothing, nor does a password that finds no line

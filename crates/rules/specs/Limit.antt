@@ -68,6 +68,14 @@ half = 4294967296
 abbrev pub defaultLimit : ℕ
 defaultLimit = word
 
+-- 02, CR 9: "The store holds a day, 0 to 65,535"; "A day or a last day above 65,535 is 2."; of last days, "A master's is 65,535."
+abbrev pub day : ℕ
+day = 65535
+
+-- the last day of a derive line that has none: "a line without it takes the parent's", which is never above this
+abbrev pub defaultLastDay : ℕ
+defaultLastDay = day
+
 -- a byte, of write and of send, as a number of a line
 abbrev pub byte : ℕ
 byte = 255

@@ -46,6 +46,7 @@ pub record CapSeen : Type 0 where
   pub password : Password
   pub window : Window
   pub rights : ℕ
+  pub lastDay : ℕ
   pub moneyword : ℕ
   -- it has no parent
   pub master : Bool
@@ -58,6 +59,7 @@ capAt s i = record {
   password = s .cap i .password;
   window = s .cap i .window;
   rights = s .cap i .rights;
+  lastDay = s .cap i .lastDay;
   moneyword = s .money i;
   master = eqb (s .cap i .parent) 0;
   parent = s .cap (s .cap i .parent) .password .p1;
@@ -77,6 +79,7 @@ capSeen s n p1 = capAt s (capNamed s n p1)
 
 pub record SameMeaning (s t : State) : Type 0 where
   pub house : t .house ≡ s .house
+  pub day : t .day ≡ s .day
   pub objects : (n : Name) → objectSeen t n ≡ objectSeen s n
   pub caps : (n : Name) (p1 : ℕ) → capSeen t n p1 ≡ capSeen s n p1
 

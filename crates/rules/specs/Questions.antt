@@ -13,7 +13,8 @@ use Rattle.rules.specs.Call.{Capability}
 use Rattle.rules.specs.Password.{presented}
 use Rattle.rules.specs.Refusals.{Refusal, _when_, first, nameFits, running, showing}
 
--- ---- 02, CR 3: "the window of a capability presented by a caller, under READ, with read's 1, 2, 3, 5 and 6"
+-- ---- 02, CR 3: "the window of a capability presented by a caller, under READ, with read's 1, 2, 3, 5 and 6"; CR 9: 19
+-- "right after 5 in every call and in the drive's window question"
 
 -- 0 or the refusal, and the window; a refusal's is 0 and 0
 pub record Windowed : Type 0 where
@@ -24,7 +25,7 @@ pub record Windowed : Type 0 where
 unfoldable pub windowSlot : State → Name → Capability → ℕ
 windowSlot s caller x = presented s (objectNamed s caller) x
 
--- 2, of the two names, then 3, 5 and 6
+-- 2, of the two names, then 3, 5, 19 (02, CR 9) and 6
 unfoldable pub windowRefuses : State → Name → Capability → List Refusal
 windowRefuses s caller x =
     Code.outOfRange when not (nameFits caller && nameFits (x .name))
@@ -44,7 +45,8 @@ windowAsked s caller x = windowedBy (first (windowRefuses s caller x)) (s .cap (
 -- ---- 02, CR 8: "the number of the 2 to the power 64 passwords which, presented by a named process for one object and one
 -- right, would get past 5 and 6"
 
--- the process in slot me presents the password p1, p2 for the object named, and 5 and 6 are not met
+-- the process in slot me presents the password p1, p2 for the object named, and 5, 19 and 6 are not
+-- met; 02, CR 9: "The password count of CR 8 leaves expired ones out."
 unfoldable pub opens : State → ℕ → Name → ℕ → (p1 p2 : ℕ) → Bool
 opens s me object right p1 p2 =
     let x : Capability = record { name = object; password = record { p1 = p1; p2 = p2 } } in

@@ -51,7 +51,7 @@ argumentsFit makeObj c = nameFits (c .name) && leb (c .size) Limit.size && leb (
 argumentsFit read c = transferFits (c .range) && bufferFits c
 argumentsFit write c = transferFits (c .range) && eqb (length (c .text)) (c .range .end - c .range .start)
 argumentsFit capInfo c = true
-argumentsFit deriveCap c = leb (c .rights) Limit.rights && ordered (c .range)
+argumentsFit deriveCap c = leb (c .rights) Limit.rights && ordered (c .range) && leb (c .lastDay) Limit.day
 argumentsFit deleteCap c = scratchFits c
 argumentsFit renameObj c = scratchFits c
 argumentsFit withdraw c = true
@@ -92,11 +92,19 @@ early s c = first
     ∷ Code.cannotPay when ltb (s .cash (caller s c)) (feeOf (c .number))
     ∷ [])
 
--- ---- 5, no such object or password, and 6, right missing
+-- ---- 5, no such object or password; 02, CR 9: 19, the store's day is after the capability's last day, "right after 5"; and 6,
+-- right missing
+
+unfoldable pub expired : State → ℕ → Bool
+expired s k = ltb (s .cap k .lastDay) (s .day)
 
 -- k is the slot of the capability presented, of which the right is asked
 unfoldable pub showing : State → ℕ → ℕ → List Refusal
-showing s k right = Code.notFound when eqb k 0 ∷ Code.rightMissing when not (has (s .cap k .rights) right) ∷ []
+showing s k right =
+    Code.notFound when eqb k 0
+    ∷ Code.expired when expired s k
+    ∷ Code.rightMissing when not (has (s .cap k .rights) right)
+    ∷ []
 
 -- of a call: the right that it asks, where it presents a capability
 unfoldable pub presenting : State → ℕ → Op → List Refusal
@@ -105,5 +113,5 @@ presenting s k o = elim (presents o) [ true ↦ showing s k (asked o) | false �
 -- a theorem that computes with this file's definitions says `unfolding` and this name
 unfoldable pub computes : Unit {0}
 unfolding _when_ first nameFits ordered transferFits bufferFits scratchFits argumentsFit inRange caller running early
-    showing presenting
+    expired showing presenting
 computes = tt

@@ -82,7 +82,7 @@ both a b = bitAnd a b
 pub data Op : Type 0 where
   makeObj read write capInfo deriveCap deleteCap renameObj withdraw : Op
   deposit suspend resume applyLock send receive wait revive : Op
-  -- any other number
+  -- any other number: no call of a process
   unknown : Op
 
 unfoldable pub op : ℕ → Op
@@ -103,6 +103,10 @@ writeNumber = 3
 
 abbrev pub withdrawNumber : ℕ
 withdrawNumber = 8
+
+-- 02, CR 9: "The host sets the day by call 17"; it is no call of a process
+abbrev pub dayNumber : ℕ
+dayNumber = 17
 
 -- the sixteen fees, in call order
 unfoldable pub fees : List ℕ

@@ -1,6 +1,6 @@
 -- 01, "A script and its output", in numbers: a line as a call, the numbers that an answer writes, and a run to the `T`
 -- line. How the numbers stand in bytes is the script program's own.
-use Prim.Native.Nat.{ℕ, suc}
+use Prim.Native.Nat.{ℕ, _+_}
 use mathlib.Core.Bool.{Bool, true, false, not, _&&_}
 use mathlib.Core.List.{List, [], _∷_, _++_}
 use lib.Dec.{eqb, leb, ltb}
@@ -22,13 +22,15 @@ use Rattle.rules.specs.Slots.{find, any}
 use Rattle.rules.specs.Store.{Password, State, capLives, allCash, allMasters, allBoxes, fresh}
 use Rattle.rules.specs.Rights.{Op, makeObj, read, write, capInfo, deriveCap, deleteCap, renameObj, withdraw}
 use Rattle.rules.specs.Rights.{deposit, suspend, resume, applyLock, send, receive, wait, revive, unknown, op}
+use Rattle.rules.specs.Rights.{dayNumber}
 use Rattle.rules.specs.Call.{Call, Capability, Answer, Outcome, Choice, code}
 use Rattle.rules.specs.Password.{presented}
 use Rattle.rules.specs.Refusals.{caller}
 use Rattle.rules.specs.Calls.{emptied}
 use Rattle.rules.specs.Rule.{rule}
 use Rattle.rules.specs.Fields.{Field, callerVolume, callerSerial, capVolume, capSerial, capP1, capP2, volume, size, flag}
-use Rattle.rules.specs.Fields.{rights, serial, p1, p2, start, end, sum, word1, word2, text, limit, fields, place}
+use Rattle.rules.specs.Fields.{rights, serial, p1, p2, start, end, sum, word1, word2, text, limit, lastDay, day, fields}
+use Rattle.rules.specs.Fields.{place}
 
 -- ---- a line: call number, caller's volume and serial, the capability (volume, serial, p1, p2) where one is presented,
 -- then arguments; `fields` says which
@@ -37,25 +39,37 @@ use Rattle.rules.specs.Fields.{rights, serial, p1, p2, start, end, sum, 
 abbrev pub nth : List ℕ → ℕ → ℕ
 nth l i = getD l i 0
 
--- the line has a place for a limit, and one number less than its fields
-unfoldable pub lacksLimit : Op → List ℕ → Bool
-lacksLimit o l = not (eqb (place o limit) 0) && eqb (suc (length l)) (length (fields o))
+-- the line has a place for a last day, and n numbers less than its fields
+unfoldable pub lacks : ℕ → Op → List ℕ → Bool
+lacks n o l = not (eqb (place o lastDay) 0) && eqb (n + length l) (length (fields o))
 
--- 02, CR 1: "A script line without the limit behaves as before": it is read with the default limit in its place
+-- these numbers put in at a field's place
+unfoldable pub putIn : ℕ → List ℕ → List ℕ → List ℕ
+putIn p ns l = take p l ++ ns ++ drop p l
+
+-- 02, CR 9: "a line without it takes the parent's", of the last day; CR 1: "A script line without the limit behaves as
+-- before". Such a line is read with the defaults in their places: that of the last day, or those of both
 unfoldable pub whole : Op → List ℕ → List ℕ
-whole o l = elim (lacksLimit o l) [
-  | true ↦ take (place o limit) l ++ Limit.defaultLimit ∷ drop (place o limit) l
-  | false ↦ l
+whole o l = elim (lacks 1 o l) [
+  | true ↦ putIn (place o lastDay) (Limit.defaultLastDay ∷ []) l
+  | false ↦ elim (lacks 2 o l) [
+    | true ↦ putIn (place o limit) (Limit.defaultLimit ∷ Limit.defaultLastDay ∷ []) l
+    | false ↦ l
+  ]
 ]
 
 -- bytes are 0 to 255
 unfoldable pub areBytes : List ℕ → Bool
 areBytes l = not (any (λ b. ltb Limit.byte b) l)
 
+-- calls are 1 to 17
+unfoldable pub isCall : ℕ → Bool
+isCall n = leb 1 n && leb n dayNumber
+
 -- a line of the call has as many numbers as fields, or, where it goes on with bytes, the numbers before them and bytes
 unfoldable pub lineFits : Op → List ℕ → Bool
 lineFits o [] = false
-lineFits o (n ∷ l) = elim (eqb (place o text) 0) [
+lineFits o (n ∷ l) = isCall n && elim (eqb (place o text) 0) [
   | true ↦ eqb (length (whole o (n ∷ l))) (length (fields o))
   | false ↦ leb (place o text) (length (n ∷ l)) && areBytes (drop (place o text) (n ∷ l))
 ]
@@ -93,6 +107,8 @@ callOf o l = record {
   buffer = Limit.buffer;
   scratch = Limit.scratch;
   limit = said o l limit;
+  lastDay = said o l lastDay;
+  day = said o l day;
 }
 
 -- ---- the numbers of an answer: 0 or the refusal, then results
@@ -220,6 +236,6 @@ example = record {
 -- a theorem that computes with the rules says `unfolding` and this name
 unfoldable pub computes : Unit {0}
 unfolding Slots.computes Store.computes Rights.computes Call.computes Password.computes Refusals.computes
-    Update.computes Changes.computes Calls.computes Rule.computes Fields.computes lacksLimit whole areBytes lineFits numberAt bytesAt callOf written
+    Update.computes Changes.computes Calls.computes Rule.computes Fields.computes lacks putIn whole areBytes isCall lineFits numberAt bytesAt callOf written
     results answerOf freed lastFree lineRule totals play writes says example
 computes = tt

@@ -71,11 +71,14 @@ pub record Cap : Type 0 where
   pub password : Password
   pub window : Window
   pub rights : ℕ
+  -- 02, CR 9
+  pub lastDay : ℕ
 
--- the house; by slots 1 to 64 each object, its bytes, and for a process its lockword, cash, marks and box, oldest
+-- the house and the day (02, CR 9); by slots 1 to 64 each object, its bytes, and for a process its lockword, cash, marks and box, oldest
 -- first; by slots 1 to 512 each capability and its moneyword
 pub record State : Type 0 where
   pub house : ℕ
+  pub day : ℕ
   pub object : ℕ → Object
   pub bytes : ℕ → List ℕ
   pub lock : ℕ → Lockword
@@ -106,7 +109,7 @@ unfoldable pub noObject : Object
 noObject = record { live = false; name = noName; size = 0; process = false }
 
 unfoldable pub noCap : Cap
-noCap = record { object = 0; parent = 0; password = noPassword; window = noWindow; rights = 0 }
+noCap = record { object = 0; parent = 0; password = noPassword; window = noWindow; rights = 0; lastDay = 0 }
 
 -- ---- the climb by parents
 
@@ -164,10 +167,11 @@ unfoldable pub moneyIn : State → ℕ
 moneyIn s = allCash s + allMasters s + allBoxes s + s .house
 
 -- ---- the fresh store: one running process, volume 0 serial 1, size 0, lockword 0 and 0, all rights, moneyword 0,
--- cash equal to the supply; the house has 0. The process and its master have the last slots, where a look-up starts
+-- cash equal to the supply; the house has 0, the day is 0. The process and its master have the last slots, where a look-up starts
 unfoldable pub fresh : ℕ → Password → State
 fresh supply p = record {
   house = 0;
+  day = 0;
   object = at (λ o. noObject) Limit.objects (record {
     live = true;
     name = record { volume = 0; serial = 1 };
@@ -185,6 +189,7 @@ fresh supply p = record {
     password = p;
     window = noWindow;
     rights = Limit.rights;
+    lastDay = Limit.day;
   });
   money = λ i. 0;
 }

@@ -38,6 +38,8 @@ makes = record {
   buffer = Limit.buffer;
   scratch = Limit.scratch;
   limit = 0;
+  lastDay = 0;
+  day = 0;
 }
 
 unfoldable pub low : Choice
@@ -75,6 +77,7 @@ pub record Example : Type 0 where
     password = record { p1 = 11; p2 = 13 };
     window = noWindow;
     rights = 3;
+    lastDay = Limit.day;
     moneyword = 0;
     master = true;
     parent = 0;

@@ -10,8 +10,8 @@ use Rattle.rules.specs.Slots.{countOver}
 use Rattle.rules.specs.Store.{Name, Password, State, sameName, capLives, objectNamed, moneyIn, fresh}
 use Rattle.rules.specs.Valid.{Valid}
 use Rattle.rules.specs.Call.{Call, Outcome, Choice, code}
-use Rattle.rules.specs.Rights.{has, op, read, feeOf}
-use Rattle.rules.specs.Refusals.{Refusal, _when_, first, argumentsFit, caller}
+use Rattle.rules.specs.Rights.{has, op, read, feeOf, dayNumber}
+use Rattle.rules.specs.Refusals.{Refusal, _when_, first, argumentsFit, caller, expired}
 use Rattle.rules.specs.Changes.{setTerminated}
 use Rattle.rules.specs.Calls.{liesIn}
 use Rattle.rules.specs.Rule.{paid, rule, isDone}
@@ -40,7 +40,9 @@ pub record Refused (s : State) (c : Call) (r : Outcome) : Type 0 where
   -- 4 marks the caller terminated
   pub marks : r .answer .code ≡ Code.cannotPay → r .after ≡ setTerminated s (caller s c) true
   -- later ones move only the fee
-  pub fee : Code.cannotPay < r .answer .code → r .after ≡ paid s c
+  pub fee : c .number ≢ dayNumber → Code.cannotPay < r .answer .code → r .after ≡ paid s c
+  -- call 17 has none: its refusals change nothing
+  pub host : c .number ≡ dayNumber → r .after ≡ s
 
 unfoldable pub RefusedLeaves : Type 0
 RefusedLeaves = (s : State) (c : Call) (h : Choice) → isDone (rule s c h) ≡ false → Refused s c (rule s c h)
@@ -78,7 +80,7 @@ Awake s = (o : ℕ) → s .marks o .waiting ≡ true → s .box o ≡ []
 unfoldable pub MailWakes : Type 0
 MailWakes = (supply : ℕ) (p : Password) (l : List Step) → Awake (run (start supply p) l .store)
 
--- ---- 02, CR 3: the window question is asked "with read's 1, 2, 3, 5 and 6"
+-- ---- 02, CR 3: the window question is asked "with read's 1, 2, 3, 5 and 6", and since CR 9 with 19 after 5
 
 -- the question's refusals, then 7
 unfoldable pub readRefuses : State → Call → List Refusal
@@ -104,10 +106,12 @@ ReadInside = (s : State) (c : Call) (h : Choice) → op (c .number) ≡ read
 -- ---- 02, CR 8: "The definition counts passwords; the program counts capabilities. The two are proved equal for every
 -- well-formed store."
 
--- how many capabilities of the object named hold the right
+-- how many capabilities of the object named hold the right; 02, CR 9: the count "leaves expired ones out"
 unfoldable pub holding : State → Name → ℕ → ℕ
 holding s object right = countOver Limit.caps (λ i.
-    capLives s i && sameName (s .object (s .cap i .object) .name) object && has (s .cap i .rights) right)
+    capLives s i
+    && sameName (s .object (s .cap i .object) .name) object
+    && (not (expired s i) && has (s .cap i .rights) right))
 
 unfoldable pub PasswordsCaps : Type 0
 PasswordsCaps = (s : State) (me : ℕ) (object : Name) (right : ℕ) → Valid s

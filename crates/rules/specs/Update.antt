@@ -6,6 +6,21 @@ use Rattle.rules.specs.Store.{Lockword, Marks, Message, Object, Cap, Sta
 unfoldable pub withHouse : State → ℕ → State
 withHouse s x = record {
   house = x;
+  day = s .day;
+  object = s .object;
+  bytes = s .bytes;
+  lock = s .lock;
+  cash = s .cash;
+  marks = s .marks;
+  box = s .box;
+  cap = s .cap;
+  money = s .money;
+}
+
+unfoldable pub withDay : State → ℕ → State
+withDay s x = record {
+  house = s .house;
+  day = x;
   object = s .object;
   bytes = s .bytes;
   lock = s .lock;
@@ -19,6 +34,7 @@ withHouse s x = record {
 unfoldable pub withObject : State → (ℕ → Object) → State
 withObject s x = record {
   house = s .house;
+  day = s .day;
   object = x;
   bytes = s .bytes;
   lock = s .lock;
@@ -32,6 +48,7 @@ withObject s x = record {
 unfoldable pub withBytes : State → (ℕ → List ℕ) → State
 withBytes s x = record {
   house = s .house;
+  day = s .day;
   object = s .object;
   bytes = x;
   lock = s .lock;
@@ -45,6 +62,7 @@ withBytes s x = record {
 unfoldable pub withLock : State → (ℕ → Lockword) → State
 withLock s x = record {
   house = s .house;
+  day = s .day;
   object = s .object;
   bytes = s .bytes;
   lock = x;
@@ -58,6 +76,7 @@ withLock s x = record {
 unfoldable pub withCash : State → (ℕ → ℕ) → State
 withCash s x = record {
   house = s .house;
+  day = s .day;
   object = s .object;
   bytes = s .bytes;
   lock = s .lock;
@@ -71,6 +90,7 @@ withCash s x = record {
 unfoldable pub withMarks : State → (ℕ → Marks) → State
 withMarks s x = record {
   house = s .house;
+  day = s .day;
   object = s .object;
   bytes = s .bytes;
   lock = s .lock;
@@ -84,6 +104,7 @@ withMarks s x = record {
 unfoldable pub withBox : State → (ℕ → List Message) → State
 withBox s x = record {
   house = s .house;
+  day = s .day;
   object = s .object;
   bytes = s .bytes;
   lock = s .lock;
@@ -97,6 +118,7 @@ withBox s x = record {
 unfoldable pub withCap : State → (ℕ → Cap) → State
 withCap s x = record {
   house = s .house;
+  day = s .day;
   object = s .object;
   bytes = s .bytes;
   lock = s .lock;
@@ -110,6 +132,7 @@ withCap s x = record {
 unfoldable pub withMoney : State → (ℕ → ℕ) → State
 withMoney s x = record {
   house = s .house;
+  day = s .day;
   object = s .object;
   bytes = s .bytes;
   lock = s .lock;
@@ -122,5 +145,5 @@ withMoney s x = record {
 
 -- a theorem that computes with this file's definitions says `unfolding` and this name
 unfoldable pub computes : Unit {0}
-unfolding withHouse withObject withBytes withLock withCash withMarks withBox withCap withMoney
+unfolding withHouse withDay withObject withBytes withLock withCash withMarks withBox withCap withMoney
 computes = tt

@@ -49,11 +49,13 @@ pub record LiesIn (v w : Window) : Type 0 where
   pub start : w .start ≤ v .start
   pub end : v .end ≤ w .end
 
--- the child's rights and window lie in its parent's, and it is of the parent's object
+-- the child's rights and window lie in its parent's, and it is of the parent's object; 02, CR 9: the parent's last day is at
+-- or after the child's
 pub record ChildIn (child parent : Cap) : Type 0 where
   pub object : child .object ≡ parent .object
   pub rights : bitAnd (child .rights) (parent .rights) ≡ child .rights
   pub window : LiesIn (child .window) (parent .window)
+  pub lastDay : child .lastDay ≤ parent .lastDay
 
 -- a climb by parents that ends: xs are the slots from i up to the last one before 0
 pub data Climbs (parent : ℕ → ℕ) : ℕ → List ℕ → Type 0 where
@@ -74,12 +76,13 @@ pub record Caps (object : ℕ → Object) (cap : ℕ → Cap) : Type 0 where
   pub parent : (i : ℕ) → Lives cap i → cap i .parent ≢ 0 → Lives cap (cap i .parent)
   pub within : (i : ℕ) → Lives cap i → cap i .parent ≢ 0 → ChildIn (cap i) (cap (cap i .parent))
 
--- the master of the object in slot o: its window is 0 to the size
+-- the master of the object in slot o: its window is 0 to the size, its last day 65,535
 pub record IsMaster (o size : ℕ) (x : Cap) : Type 0 where
   pub of : x .object ≡ o
   pub parent : x .parent ≡ 0
   pub start : x .window .start ≡ 0
   pub end : x .window .end ≡ size
+  pub lastDay : x .lastDay ≡ Limit.day
 
 -- ---- processes
 
@@ -124,3 +127,5 @@ pub record Valid (s : State) : Type 0 where
   pub formed : Formed s
   -- the money total is at most 4,294,967,295
   pub total : moneyIn s ≤ Limit.word
+  -- 02, CR 9: the day is 0 to 65,535
+  pub day : s .day ≤ Limit.day

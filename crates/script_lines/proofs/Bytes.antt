@@ -13,9 +13,9 @@ use borrow.Author.Tests.{lt-ltb, le-ltb, le-leb, lt-leb, ltb-true, ltb-false, le
 use Rattle.rules.specs.Slots.{any}
 use Rattle.rules.specs.Rights.{op}
 use Rattle.rules.specs.Fields.{text, place}
-use Rattle.rules.specs.Script.{nth, areBytes}
+use Rattle.rules.specs.Script.{nth, areBytes, isCall}
 use Rattle.rules.proofs.Tests.{by-bool, pick-yes, pick-not, all2}
-use Rattle.script_lines.proofs.Calls.{fits-none, before-bytes}
+use Rattle.script_lines.proofs.Calls.{fits-not, before-bytes}
 use Rattle.script_lines.specs.Lists.{BytesFrom, LineAsks}
 
 bytes-cons : (b : ℕ) (l : List ℕ) → b ≤ 255 → areBytes (b ∷ l) ≡ areBytes l
@@ -76,7 +76,8 @@ bytes-from l from i e low h =
 
 pub line-bytes : (l out : List ℕ) (a : ℕ) → LineAsks l out → a ≡ place (op (nth l 0)) text → a ≢ 0 → BytesFrom l a out
 line-bytes l out a asks e h =
-    let some : length l ≢ 0 = λ z. false≢true (sym (fits-none (op (nth l 0)) l z) ∙ asks .fits) in
+    let some : isCall (nth l 0) ≡ true = by-bool (isCall (nth l 0)) (λ t. t)
+    (λ z. absurd (false≢true (sym (fits-not (op (nth l 0)) l z) ∙ asks .fits))) in
     let f = all2 (leb a (length l)) (areBytes (drop a l))
     (ap (λ (k : ℕ). leb k (length l) && areBytes (drop k l)) e
     ∙ before-bytes (op (nth l 0)) l some (λ z. h (e ∙ z)) ∙ asks .fits) in

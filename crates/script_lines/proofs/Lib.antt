@@ -1,6 +1,6 @@
 -- the table
 pub mod Rows
--- a line that may lack its limit
+-- a line that may lack its last day, or that and its limit
 pub mod Lacking
 -- a line as a call
 pub mod Calls

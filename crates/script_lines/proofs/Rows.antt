@@ -1,29 +1,43 @@
 -- A row of the table at the column of a call number.
-use Prim.Native.Nat.{ℕ, _<_}
-use mathlib.Core.Path.{_≡_, ap, _∙_}
-use mathlib.Core.List.{List}
+use Prim.Native.Nat.{ℕ, zero, suc, _≤_, _<_}
+use mathlib.Core.Path.{_≡_, refl, ap, _∙_}
+use mathlib.Core.List.{List, [], _∷_, map}
 use native.Mathlib.Omega.{arith}
 use lib.ListN.{length, getD, List·getD-map, List·getD-eq-default}
 use Rattle.rules.specs.Rights.{Op, unknown, op}
-use Rattle.rules.specs.Fields.{Field, fields, placeFrom, place}
+use Rattle.rules.specs.Fields.{Field, fields, place}
 use Rattle.script_lines.specs.Table.{calls, places, lengths}
 
-place-at : (f : Field) (n : ℕ) → getD (places f) n 0 ≡ place (op n) f
-unfolding op fields placeFrom place calls places
-place-at f n = List·getD-map (λ o. place o f) calls n unknown
-
-length-at : (n : ℕ) → getD lengths n 0 ≡ length (fields (op n))
-unfolding op fields calls lengths
-length-at n = List·getD-map (λ o. length (fields o)) calls n unknown
-
 -- k is the column of n
-pub place-in : (f : Field) (k n : ℕ) → op k ≡ op n → getD (places f) k 0 ≡ place (op n) f
-place-in f k n e = place-at f k ∙ ap (λ (o : Op). place o f) e
+abbrev pub Column : ℕ → ℕ → Type 0
+Column k n = (k ≤ 16) × (op k ≡ op n)
 
-pub length-in : (k n : ℕ) → op k ≡ op n → getD lengths k 0 ≡ length (fields (op n))
-length-in k n e = length-at k ∙ ap (λ (o : Op). length (fields o)) e
+pub itself : (k : ℕ) → k ≤ 16 → Column k k
+itself k low = (low, refl)
 
--- no call has a number above 16
+pub of-number : {k m n : ℕ} → Column k m → m ≡ n → Column k n
+of-number (low, e) f = (low, e ∙ ap op f)
+
+-- the same, whatever stands past the last
+within : (l : List ℕ) (k a b : ℕ) → k < length l → getD l k a ≡ getD l k b
+within [] k a b h = absurd (omega arith)
+within (x ∷ l) zero a b h = refl
+within (x ∷ l) (suc k) a b h = within l k a b (omega arith)
+
+row-in : (g : Op → ℕ) (k n : ℕ) → Column k n → getD (map g calls) k 0 ≡ g (op n)
+unfolding op calls
+row-in g k n (low, e) =
+    within (map g calls) k 0 (g unknown) (omega arith) ∙ List·getD-map g calls k unknown ∙ ap g e
+
+pub place-in : (f : Field) (k n : ℕ) → Column k n → getD (places f) k 0 ≡ place (op n) f
+unfolding places
+place-in f = row-in (λ o. place o f)
+
+pub length-in : (k n : ℕ) → Column k n → getD lengths k 0 ≡ length (fields (op n))
+unfolding lengths
+length-in = row-in (λ o. length (fields o))
+
+-- no process call has a number above 16
 pub past : (n : ℕ) → 16 < n → op n ≡ unknown
 unfolding op calls
 past n h = List·getD-eq-default calls unknown {n = n} (omega arith)

@@ -1,16 +1,18 @@
--- A line that may lack its limit: what stands from the limit's place on.
-use Prim.Native.Nat.{ℕ, _-_}
+-- A line that may lack its last day, or its limit and its last day.
+use Prim.Native.Nat.{ℕ}
 use mathlib.Core.Bool.{Bool, true, false}
 use mathlib.Core.List.{List}
-use Rattle.rules.specs.Limit as Limit
-use Rattle.rules.specs.Script.{numberAt}
+use Rattle.rules.specs.Rights.{Op}
+use Rattle.rules.specs.Script.{lacks, numberAt}
 
--- the number of a field after the limit, whose place in a whole line is p
-unfoldable pub numberAfter : Bool → List ℕ → ℕ → ℕ
-numberAfter true l p = numberAt l (p - 1)
-numberAfter false l p = numberAt l p
+-- how many of them it lacks
+unfoldable pub lacking : Op → List ℕ → ℕ
+lacking o l = elim (lacks 1 o l) [
+  | true ↦ 1
+  | false ↦ elim (lacks 2 o l) [ true ↦ 2 | false ↦ 0 ]
+]
 
--- the limit, whose place in a whole line is p
-unfoldable pub limitIn : Bool → List ℕ → ℕ → ℕ
-limitIn true l p = Limit.defaultLimit
-limitIn false l p = numberAt l p
+-- the number in one of them, whose place in a whole line is p
+unfoldable pub numberOr : Bool → ℕ → List ℕ → ℕ → ℕ
+numberOr true default l p = default
+numberOr false default l p = numberAt l p

@@ -5,13 +5,15 @@ ghost use mathlib.Core.Bool.{_&&_};
 ghost use lib.Dec.{leb};
 ghost use lib.ListN.{length, drop};
 ghost use Rattle.rules.specs.Rights.{op};
-ghost use Rattle.rules.specs.Script.{areBytes, lacksLimit, lineFits, nth};
+ghost use Rattle.rules.specs.Script.{areBytes, isCall, lineFits, nth};
+ghost use Rattle.script_lines.specs.Lacking.{lacking};
+use crate::table::LAST_DAY;
 use crate::table::LENGTH;
-use crate::table::LIMIT;
 use crate::table::TEXT;
 use crate::table::column;
 use crate::table::wide;
 use values::limit::MAX_BYTE;
+use values::number::DAY;
 
 // The numbers from place `from` on are 0 to 255.
 fn are_bytes(numbers: &[u32], from: usize) -> bool
@@ -47,33 +49,44 @@ pub(crate) fn nth(numbers: &[u32], i: usize) -> u32
     0
 }
 
-// The line has a place for a limit, and one number less than its fields.
-pub(crate) fn lacks_limit(numbers: &[u32], call: usize) -> bool
+// How many numbers a line with a place for a last day has less than its fields, where that is 1 or 2.
+pub(crate) fn lacking(numbers: &[u32], call: usize) -> u8
     requires { ⌜ call ≤ 16 ⌝ }
-    ensures { λ r. ⌜ r ≡ lacksLimit (op call) (now (numbers .entry)) ⌝ }
+    ensures { λ r. ⌜ r ≡ lacking (op call) (now (numbers .entry)) ⌝ }
 {
-    let place = LIMIT[call];
+    let place = LAST_DAY[call];
     if place == 0 {
-        return false;
+        return 0;
     }
     let fields = wide(LENGTH[call]);
-    numbers.len() + 1 == fields
+    if numbers.len() + 1 == fields {
+        return 1;
+    }
+    if numbers.len() + 2 == fields {
+        return 2;
+    }
+    0
 }
 
-// A line has as many numbers as its call asks, but for the limit, and bytes where it asks them.
+// Calls are 1 to 17.
+fn is_call(number: u32) -> bool
+    ensures { λ r. ⌜ r ≡ isCall number ⌝ }
+{
+    number >= 1 && number <= DAY
+}
+
+// A line of a call has as many numbers as the call asks, but for those that it may lack, and bytes where it asks them.
 pub fn line_fits(numbers: &[u32]) -> bool
     ensures { λ r. ⌜ r ≡ lineFits (op (nth (now (numbers .entry)) 0)) (now (numbers .entry)) ⌝ }
 {
-    if numbers.len() == 0 {
+    let number = nth(numbers, 0);
+    if !is_call(number) {
         return false;
     }
-    let call = column(numbers[0]);
+    let call = column(number);
     let text = wide(TEXT[call]);
     if text == 0 {
-        if lacks_limit(numbers, call) {
-            return true;
-        }
-        return numbers.len() == wide(LENGTH[call]);
+        return numbers.len() + wide(lacking(numbers, call)) == wide(LENGTH[call]);
     }
     ends_in_bytes(numbers, text)
 }

@@ -1,12 +1,13 @@
 // A line as a request: its numbers by their names. A number that the line does not have is 0.
+ghost use Prim.Native.Nat.{_-_};
 ghost use mathlib.Core.Path.{_≡_};
 ghost use Rattle.rules.specs.Limit as Limit;
 ghost use Rattle.rules.specs.Rights.{op};
 ghost use Rattle.rules.specs.Script.{nth, numberAt};
 ghost use Rattle.rules.specs.Script.{callOf as Script·callOf};
 ghost use Rattle.call_steps.specs.Request.{callOf};
-ghost use Rattle.script_lines.specs.Lacking.{numberAfter, limitIn};
-use crate::fits::lacks_limit;
+ghost use Rattle.script_lines.specs.Lacking.{numberOr};
+use crate::fits::lacking;
 use crate::fits::nth;
 use crate::table;
 use crate::table::column;
@@ -14,6 +15,7 @@ use crate::table::wide;
 use call_steps::request::Capability;
 use call_steps::request::Name;
 use call_steps::request::Request;
+use values::limit::DEFAULT_LAST_DAY;
 use values::limit::DEFAULT_LIMIT;
 use values::window::Window;
 
@@ -27,25 +29,22 @@ fn number_at(numbers: &[u32], place: u8) -> u32
     nth(numbers, wide(place))
 }
 
-// The number at the place of a field that stands after the limit: one less where the line lacks it.
-fn after_limit(numbers: &[u32], place: u8, lacks: bool) -> u32
-    ensures { λ r. ⌜ r ≡ numberAfter lacks (now (numbers .entry)) place ⌝ }
+// The number at the place of a field that stands after those that the line lacks: so many less.
+fn number_after(numbers: &[u32], place: u8, lacking: u8) -> u32
+    ensures { λ r. ⌜ r ≡ numberAt (now (numbers .entry)) (place - lacking) ⌝ }
 {
-    if place == 0 {
+    if place <= lacking {
         return 0;
     }
-    if lacks {
-        return number_at(numbers, place - 1);
-    }
-    number_at(numbers, place)
+    number_at(numbers, place - lacking)
 }
 
-// The limit at its place, or the default one.
-fn limit_at(numbers: &[u32], place: u8, lacks: bool) -> u32
-    ensures { λ r. ⌜ r ≡ limitIn lacks (now (numbers .entry)) place ⌝ }
+// The number at a field's place, or the default where the line lacks it.
+fn number_or(numbers: &[u32], place: u8, lacks: bool, default: u32) -> u32
+    ensures { λ r. ⌜ r ≡ numberOr lacks default (now (numbers .entry)) place ⌝ }
 {
     if lacks {
-        return DEFAULT_LIMIT;
+        return default;
     }
     number_at(numbers, place)
 }
@@ -58,7 +57,7 @@ pub fn request_of(numbers: &[u32]) -> Request
 {
     let number = nth(numbers, 0);
     let call = column(number);
-    let lacks = lacks_limit(numbers, call);
+    let lacking = lacking(numbers, call);
     Request {
         number,
         caller: Name {
@@ -83,8 +82,8 @@ pub fn request_of(numbers: &[u32]) -> Request
         flag: number_at(numbers, table::FLAG[call]),
         rights: number_at(numbers, table::RIGHTS[call]),
         drawn: [
-            after_limit(numbers, table::P1[call], lacks),
-            after_limit(numbers, table::P2[call], lacks),
+            number_after(numbers, table::P1[call], lacking),
+            number_after(numbers, table::P2[call], lacking),
         ],
         range: Window {
             start: number_at(numbers, table::START[call]),
@@ -95,6 +94,13 @@ pub fn request_of(numbers: &[u32]) -> Request
             number_at(numbers, table::WORD1[call]),
             number_at(numbers, table::WORD2[call]),
         ],
-        limit: limit_at(numbers, table::LIMIT[call], lacks),
+        limit: number_or(numbers, table::LIMIT[call], lacking >= 2, DEFAULT_LIMIT),
+        last_day: number_or(
+            numbers,
+            table::LAST_DAY[call],
+            lacking >= 1,
+            DEFAULT_LAST_DAY,
+        ),
+        day: number_at(numbers, table::DAY[call]),
     }
 }

@@ -1,6 +1,7 @@
 // Which numbers the line of a call has, and where: the rules' `fields` as a table. It has a column for each call number from 0
-// to 16, the first of them for every number that is no call's, and a row for each field after the call number: its place
-// in the line, counted from 0, where the call number stands; 0 says that the line does not have the field.
+// to 16, the first of them for every number that is no process call's, 17 alone of which has a line, and a row for each
+// field after the call number: its place in the line, counted from 0, where the call number stands; 0 says that the line
+// does not have the field.
 ghost use Prim.Native.Nat.{_≤_};
 ghost use mathlib.Core.Path.{_≡_};
 ghost use Rattle.rules.specs.Rights.{op};
@@ -27,9 +28,9 @@ pub(crate) const RIGHTS: [u8; 17] = [0, 6, 0, 0, 0, 7, 0, 0, 0, 0, 0, 0, 0, 0, 0
 
 pub(crate) const SERIAL: [u8; 17] = [0, 7, 0, 0, 0, 0, 0, 0, 0, 0, 0, 0, 0, 0, 0, 0, 0];
 
-pub(crate) const P1: [u8; 17] = [0, 8, 0, 0, 0, 11, 0, 7, 0, 0, 0, 0, 0, 0, 0, 0, 0];
+pub(crate) const P1: [u8; 17] = [0, 8, 0, 0, 0, 12, 0, 7, 0, 0, 0, 0, 0, 0, 0, 0, 0];
 
-pub(crate) const P2: [u8; 17] = [0, 9, 0, 0, 0, 12, 0, 8, 0, 0, 0, 0, 0, 0, 0, 0, 0];
+pub(crate) const P2: [u8; 17] = [0, 9, 0, 0, 0, 13, 0, 8, 0, 0, 0, 0, 0, 0, 0, 0, 0];
 
 pub(crate) const START: [u8; 17] = [0, 0, 7, 7, 0, 8, 0, 0, 0, 0, 0, 0, 0, 0, 0, 0, 0];
 
@@ -45,8 +46,12 @@ pub(crate) const TEXT: [u8; 17] = [0, 0, 0, 9, 0, 0, 0, 0, 0, 0, 0, 0, 0, 8, 0, 
 
 pub(crate) const LIMIT: [u8; 17] = [0, 0, 0, 0, 0, 10, 0, 0, 0, 0, 0, 0, 0, 0, 0, 0, 0];
 
+pub(crate) const LAST_DAY: [u8; 17] = [0, 0, 0, 0, 0, 11, 0, 0, 0, 0, 0, 0, 0, 0, 0, 0, 0];
+
+pub(crate) const DAY: [u8; 17] = [1, 0, 0, 0, 0, 0, 0, 0, 0, 0, 0, 0, 0, 0, 0, 0, 0];
+
 // How many fields the line has, the text counted as one.
-pub(crate) const LENGTH: [u8; 17] = [0, 10, 9, 10, 7, 13, 7, 9, 8, 8, 7, 7, 9, 9, 3, 3, 8];
+pub(crate) const LENGTH: [u8; 17] = [2, 10, 9, 10, 7, 14, 7, 9, 8, 8, 7, 7, 9, 9, 3, 3, 8];
 
 // The column of a call number.
 pub(crate) fn column(number: u32) -> usize

@@ -8,10 +8,14 @@ use crate::output::put_indent;
 use crate::output::put_number;
 use crate::output::put_two;
 use crate::rights::put_rights;
+use values::limit::MAX_DAY;
 use values::limit::MAX_OBJECTS;
 
 // The last slot of an object.
 const LAST_OBJECT: u16 = MAX_OBJECTS as u16;
+
+// The last day of a capability that does not end.
+const NO_END: u16 = MAX_DAY as u16;
 
 // Where a walk through a tree stands.
 struct Walk {
@@ -91,12 +95,27 @@ fn put_window(words: &[u32], out: &mut [u8], at: usize, cap: u16) -> usize {
     put_number(out, r, word(words, layout::END, cap))
 }
 
-// What a capability may do: its rights, its window and its moneyword.
+// The last day, where it has an end, and whether the store's day is after it.
+fn put_last_day(links: &[u16], out: &mut [u8], at: usize, cap: u16) -> usize {
+    let last = link(links, layout::LAST_DAY, cap);
+    if last == NO_END {
+        return at;
+    }
+    let p = put(out, at, b", last day ");
+    let q = put_number(out, p, last as u32);
+    if last < link(links, layout::DAY, 0) {
+        return put(out, q, b", expired");
+    }
+    q
+}
+
+// What a capability may do: its rights, its window, its moneyword and its last day.
 fn put_powers(links: &[u16], words: &[u32], out: &mut [u8], at: usize, cap: u16) -> usize {
     let a = put_rights(out, at, link(links, layout::RIGHTS, cap));
     let b = put_window(words, out, a, cap);
     let c = put(out, b, b", moneyword ");
-    put_number(out, c, word(words, layout::MONEY, cap))
+    let d = put_number(out, c, word(words, layout::MONEY, cap));
+    put_last_day(links, out, d, cap)
 }
 
 // A capability's line; its password comes first.

@@ -66,6 +66,8 @@ requestOf c = record {
   sum = c .sum;
   lock = c .lock .first ∷ c .lock .second ∷ [];
   limit = c .limit;
+  «last_day» = c .lastDay;
+  day = c .day;
 }
 
 same-call : (c : Call) (buffer scratch : ℕ) → buffer ≡ c .buffer → scratch ≡ c .scratch

@@ -57,3 +57,9 @@ pub const WRONG_LENGTH: u32 = 17;
 
 // 02, CR 7: "the count would pass 4,294,967,295"
 pub const COUNT_PASSES: u32 = 18;
+
+// 02, CR 9: "the store's day is after the capability's last day"
+pub const EXPIRED: u32 = 19;
+
+// "the new day is before the store's"
+pub const EARLIER_DAY: u32 = 20;

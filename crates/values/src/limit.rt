@@ -49,5 +49,11 @@ pub const MAX_WORD: u32 = 4294967295;
 // 02, CR 1: the limit of a derive line that has none, which "behaves as before"
 pub const DEFAULT_LIMIT: u32 = MAX_WORD;
 
+// 02, CR 9: "The store holds a day, 0 to 65,535"; "A day or a last day above 65,535 is 2."; of last days, "A master's is 65,535."
+pub const MAX_DAY: u32 = 65535;
+
+// the last day of a derive line that has none: "a line without it takes the parent's", which is never above this
+pub const DEFAULT_LAST_DAY: u32 = MAX_DAY;
+
 // a byte, of write and of send, as a number of a line
 pub const MAX_BYTE: u32 = 255;

@@ -6,7 +6,7 @@ use harness::kernel::FormedStore;
 use harness::request::Request;
 use reference::call::{Action, Call, Key, Name, Operation};
 use reference::kernel::{Object, Store};
-use reference::numbers::{DONE, MAX_RIGHTS, MAX_WORD, MIN_BUFFER, MIN_SCRATCH};
+use reference::numbers::{DONE, MAX_DAY, MAX_RIGHTS, MAX_WORD, MIN_BUFFER, MIN_SCRATCH};
 use trials::encode::encode;
 use trials::random::Random;
 use trials::samples::Shape;
@@ -127,8 +127,8 @@ fn prepared(title: &str, objects: u32, tree: u32, cases: &mut Vec<Case>) {
     cases.push(case(format!("{title}: revive"), &ended, revives.collect()));
     let derives = names.iter().enumerate().map(|(at, name)| {
         let (p1, p2) = (at as u32, 5);
-        let (mask, limit) = (MAX_RIGHTS, MAX_WORD);
-        let derive = Action::DeriveCap { mask, start: 3, end: 400, limit, p1, p2 };
+        let (mask, limit, last_day) = (MAX_RIGHTS, MAX_WORD, MAX_DAY);
+        let derive = Action::DeriveCap { mask, start: 3, end: 400, limit, last_day, p1, p2 };
         call(*name, on(keys(&base, *name)[0], derive))
     });
     cases.push(case(format!("{title}: derive"), &base, derives.collect()));
@@ -164,6 +164,7 @@ fn deletes(shape: Shape, n: u32, cases: &mut Vec<Case>) {
         start: 0,
         end: 0,
         rights: MAX_RIGHTS,
+        last_day: MAX_DAY,
     };
     base.capabilities.insert((boss, master.p1), record);
     let key = keys(&base, name(0))[0];

@@ -40,7 +40,8 @@ fn chain_and_other() -> Store {
     let other = Object { process: true, terminated: true, ..Object::default() };
     store.objects.insert(OTHER.name, other);
     let (p2, rights) = (OTHER.p2, MAX_RIGHTS);
-    let master = Capability { p2, parent: None, moneyword: 0, start: 0, end: 0, rights };
+    let (start, end, last_day) = (0, 0, MAX_DAY);
+    let master = Capability { p2, parent: None, moneyword: 0, start, end, rights, last_day };
     store.capabilities.insert((OTHER.name, OTHER.p1), master);
     store
 }
@@ -75,7 +76,7 @@ fn on_chain(store: &Store) -> Vec<Operation> {
     let mut calls: Vec<_> = on_lowest.map(|action| Operation::On(lowest, action)).into();
     calls.push(Operation::On(master, Action::DeleteCap));
     calls.push(Operation::On(master, Action::RenameObj { p1: 1, p2: 2 }));
-    calls.extend([Operation::Receive, Operation::Wait]);
+    calls.extend([Operation::Receive, Operation::Wait, Operation::SetDay { day: MAX_DAY }]);
     calls
 }
 
@@ -83,8 +84,8 @@ fn on_chain(store: &Store) -> Vec<Operation> {
 fn beside_chain(store: &Store) -> Vec<Operation> {
     let (_, lowest) = ends(store);
     let drawn = Key { name: Name { volume: 3, serial: 9 }, p1: 1, p2: 2 };
-    let (mask, start, end, limit) = (MAX_RIGHTS, 0, MAX_SIZE, MAX_WORD);
-    let derive = Action::DeriveCap { mask, start, end, limit, p1: 1, p2: 2 };
+    let (mask, start, end, limit, last_day) = (MAX_RIGHTS, 0, MAX_SIZE, MAX_WORD, MAX_DAY);
+    let derive = Action::DeriveCap { mask, start, end, limit, last_day, p1: 1, p2: 2 };
     vec![
         Operation::MakeObj { size: MAX_SIZE, flag: 1, rights: MAX_RIGHTS, drawn },
         Operation::On(lowest, derive),

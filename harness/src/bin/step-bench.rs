@@ -8,7 +8,7 @@
 use harness::kernel::{self, FormedStore};
 use harness::request::{Request, REPLY};
 use reference::call::{Action, Call, Key, Name, Operation};
-use reference::numbers::{MAX_RIGHTS, MIN_BUFFER, MIN_SCRATCH};
+use reference::numbers::{MAX_DAY, MAX_RIGHTS, MIN_BUFFER, MIN_SCRATCH};
 use std::time::Instant;
 use trials::layout::{BYTES, LINKS, WORDS};
 use trials::random::Random;
@@ -51,8 +51,8 @@ fn make(drawn: Key, size: u32, flag: u32) -> Request {
 }
 
 fn derive(from: Key, Key { p1, p2, .. }: Key) -> Request {
-    let (mask, start, end, limit) = (MAX_RIGHTS, 0, u32::MAX, u32::MAX);
-    on(from, Action::DeriveCap { mask, start, end, limit, p1, p2 })
+    let (mask, start, end, limit, last_day) = (MAX_RIGHTS, 0, u32::MAX, u32::MAX, MAX_DAY);
+    on(from, Action::DeriveCap { mask, start, end, limit, last_day, p1, p2 })
 }
 
 /// A password that no lock touches.
@@ -171,6 +171,8 @@ fn cases(hall: &Hall) -> Vec<Case> {
     sends.iter().for_each(|request| rich.run(request));
     add("receive of 16 bytes", &rich.store, receives);
     add("wait", store, own(Operation::Wait));
+    let days = (0..100).map(|day| call(ROOT, Operation::SetDay { day }));
+    add("set_day", store, days.collect());
     cases
 }
 

@@ -140,11 +140,12 @@ pub fn new_leaf(raw: &mut RawStore, parent: usize) -> Option<usize> {
     Some(at)
 }
 
-/// Gives a capability no rights and an empty window at the start of the parent's.
+/// Gives a capability no rights, an empty window at the start of the parent's, and its last day.
 pub fn fit(raw: &mut RawStore, at: usize, parent: usize) {
     raw.set(RIGHTS, at, 0);
     raw.set(START, at, raw.get(START, parent));
     raw.set(END, at, raw.get(START, parent));
+    raw.set(LAST_DAY, at, raw.get(LAST_DAY, parent));
 }
 
 pub fn has_p1(raw: &RawStore, owner: usize, p1: u32) -> bool {

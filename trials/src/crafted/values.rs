@@ -1,11 +1,12 @@
-//! Crafted changes to values: ranges, names and money, and those that leave a store well formed.
+//! Crafted changes to values: ranges, names, days and money, and those that leave a store well
+//! formed.
 
 use super::records::*;
 use crate::encode::shuffled;
 use crate::layout::*;
 use crate::random::Random;
 use crate::raw::{decode, slots, RawStore};
-use reference::numbers::{MAX_MESSAGE, MAX_RIGHTS, TOP};
+use reference::numbers::{MAX_DAY, MAX_MESSAGE, MAX_RIGHTS, TOP};
 
 pub fn slice_length(raw: &mut RawStore, random: &mut Random) -> Option<()> {
     match random.below(6) {
@@ -79,6 +80,34 @@ pub fn rights_out_of_range(raw: &mut RawStore, random: &mut Random) -> Option<()
     Some(())
 }
 
+/// A child's last day is one after its parent's.
+pub fn last_day_after_parent(raw: &mut RawStore, random: &mut Random) -> Option<()> {
+    let early = |parent| raw.get(LAST_DAY, parent) < u16::MAX;
+    let (at, parent) = child(raw, random, |_, parent| early(parent))?;
+    raw.set(LAST_DAY, at, raw.get(LAST_DAY, parent) + 1);
+    Some(())
+}
+
+/// The last day of a parent that is no master is one before a child's.
+pub fn last_day_before_child(raw: &mut RawStore, random: &mut Random) -> Option<()> {
+    let no_master = |parent| raw.link(PARENT, parent) != 0;
+    let later = |at| raw.get(LAST_DAY, at) > 0;
+    let (at, parent) = child(raw, random, |at, parent| later(at) && no_master(parent))?;
+    raw.set(LAST_DAY, parent, raw.get(LAST_DAY, at) - 1);
+    Some(())
+}
+
+/// A master's last day is one too early, and those of its tree are not after it.
+pub fn last_day_of_master(raw: &mut RawStore, random: &mut Random) -> Option<()> {
+    let owner = raw.link(OWNER, some_master(raw, random)?);
+    for at in slots(Record::Capability) {
+        if raw.link(OWNER, at) == owner {
+            raw.set(LAST_DAY, at, raw.get(LAST_DAY, at).min(MAX_DAY as u16 - 1));
+        }
+    }
+    Some(())
+}
+
 pub fn mark_2(raw: &mut RawStore, random: &mut Random) -> Option<()> {
     let mark = random.pick(&[SUSPENDED, WAITING, TERMINATED])?;
     set_in_process(raw, random, mark, 2)
@@ -135,5 +164,26 @@ pub fn reordered_children(raw: &mut RawStore, random: &mut Random) -> Option<()>
     let (_, parent) = child(raw, random, |at, _| raw.link(NEXT_CAP, at) != 0)?;
     let order = shuffled(children(raw, parent)?, random);
     raw.link_children(parent, &order);
+    Some(())
+}
+
+pub fn last_day_at_parent(raw: &mut RawStore, random: &mut Random) -> Option<()> {
+    let (at, parent) = child(raw, random, |_, _| true)?;
+    raw.set(LAST_DAY, at, raw.get(LAST_DAY, parent));
+    Some(())
+}
+
+pub fn last_day_0(raw: &mut RawStore, random: &mut Random) -> Option<()> {
+    let (at, _) = child(raw, random, |at, _| is_leaf(raw, at))?;
+    raw.set(LAST_DAY, at, 0);
+    Some(())
+}
+
+/// The store's day is any number: before, at or after last days, or at an end of the range.
+pub fn any_day(raw: &mut RawStore, random: &mut Random) -> Option<()> {
+    let of_some = capability(raw, random, |_| true).map_or(0, |at| raw.get(LAST_DAY, at));
+    let days = [0, of_some.saturating_sub(1), of_some, of_some.saturating_add(1), u16::MAX];
+    let any = random.bits() as u16;
+    raw.set(DAY, 0, random.pick(&days).filter(|_| random.chance(800)).unwrap_or(any));
     Some(())
 }

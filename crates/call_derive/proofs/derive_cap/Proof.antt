@@ -53,7 +53,7 @@ returns : tie.Need-returns
 returns c =
     let p = c .before .before in
     let a = entry p .args in
-    stopped-12 (a .rights) (windowOf (a .range)) (passwordOf (a .t7)) (a .limit) (tested p) (c .before .if1 .taken) (c .refused .ensures)
+    stopped-12 (a .rights) (windowOf (a .range)) (passwordOf (a .t7)) (a .limit) (a .last-day) (tested p) (c .before .if1 .taken) (c .refused .ensures)
 
 slice-read-if2 : tie.Need-slice-read-if2
 slice-read-if2 c = search needs
@@ -71,7 +71,7 @@ returns-2 : tie.Need-returns-2
 returns-2 c =
     let p = c .before .before .before .before in
     let a = entry p .args in
-    stopped-13 (a .rights) (windowOf (a .range)) (passwordOf (a .t7)) (a .limit) (tested p) (c .before .before .before .if1 .left) (c .before .if2 .taken)
+    stopped-13 (a .rights) (windowOf (a .range)) (passwordOf (a .t7)) (a .limit) (a .last-day) (tested p) (c .before .before .before .if1 .left) (c .before .if2 .taken)
     (c .refused2 .ensures)
 
 name-at-requires : tie.Need-name-at-requires
@@ -109,7 +109,7 @@ returns-3 : tie.Need-returns-3
 returns-3 c =
     let p = c .before .before .before .before .before .before .before .before .before .before .before .before .before .before .before .before in
     let a = entry p .args in
-    goes-on (a .rights) (windowOf (a .range)) (passwordOf (a .t7)) (a .limit) (tested p) (c .before .before .before .before .before .before .before .before .before .before .before .before .before .before .before .if1 .left) (c .before .before .before .before .before .before .before .before .before .before .before .before .before .if2 .left)
+    goes-on (a .rights) (windowOf (a .range)) (passwordOf (a .t7)) (a .limit) (a .last-day) (tested p) (c .before .before .before .before .before .before .before .before .before .before .before .before .before .before .before .if1 .left) (c .before .before .before .before .before .before .before .before .before .before .before .before .before .if2 .left)
     (nameOf (c .before .before .before .before .before .before .before .before .before .before .before .name-at .result)) (c .before .before .before .before .before .before .before .before .before .before .before .name-at .ensures (a .words .now)) (c .hands-back .ensures)
     (c .before .before .before .before .before .before .before .before .child-of .result) (c .before .before .before .before .before .before .before .before .child-of .ensures) (c .before .before .before .before .before .add-child .ensures)
 

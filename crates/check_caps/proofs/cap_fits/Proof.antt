@@ -49,11 +49,11 @@ returns-4 c =
     (λ q live. record {
       rights = omega arith;
       ordered = omega arith;
-      whole = λ z. (sym (start .word .ensures) ∙ q .0, sym (end .word2 .ensures) ∙ q .1 ∙ whose);
+      whole = λ z. (sym (start .word .ensures) ∙ q .0, sym (end .word2 .ensures) ∙ q .1 ∙ whose, q .2);
       within = λ nz. absurd (nz (omega arith));
     })
     (λ h. let q = (h (λ z. omega arith)) .whole (omega arith) in
-    (start .word .ensures ∙ q .0, end .word2 .ensures ∙ q .1 ∙ sym whose))
+    (start .word .ensures ∙ q .0, end .word2 .ensures ∙ q .1 ∙ sym whose, q .2))
 
 is-within-requires : tie.Need-is-within-requires
 is-within-requires c κs = search needs

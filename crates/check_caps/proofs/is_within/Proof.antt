@@ -1,4 +1,4 @@
--- `is_within` tests the rights and both ends of the window.
+-- `is_within` tests the rights, both ends of the window and the last day.
 use native.Mathlib.Omega.{arith}
 use mathlib.Core.Path.{_≡_, sym, ap₂, _∙_}
 use lib.Bits.{bitAnd}
@@ -48,16 +48,27 @@ word-requires-4 : tie.Need-word-requires-4
 word-requires-4 c κs = search needs
 
 returns-3 : tie.Need-returns-3
-returns-3 c =
-    let kept = c .before .before .before .before .before in
+returns-3 c = no-it (λ h. omega (arith, h .2))
+
+link-requires-3 : tie.Need-link-requires-3
+link-requires-3 c κs = search needs
+
+link-requires-4 : tie.Need-link-requires-4
+link-requires-4 c κs = search needs
+
+returns-4 : tie.Need-returns-4
+returns-4 c =
+    let low = c .before .before .before .before .before in
+    let kept = low .before .before .before in
     let e = kept .before .before .before in
-    as-well (at-most (c .before .word3 .result) (c .word4 .result))
+    as-well (at-most (c .before .link3 .result) (c .link4 .result))
     (λ t. (
       sym (shared e) ∙ kept .if1 .left ∙ e .before .before .link .ensures,
+      omega (arith, low .if2 .left, low .before .word2 .ensures, low .before .before .word .ensures),
       omega arith,
       omega arith,
     ))
-    (λ h. omega (arith, h .2))
+    (λ h. omega (arith, h .3))
 
 pub is-within-spec : {M : Type 1} → statement M
 is-within-spec =
@@ -72,4 +83,7 @@ is-within-spec =
     returns-2
     word-requires-3
     word-requires-4
-    returns-3)
+    returns-3
+    link-requires-3
+    link-requires-4
+    returns-4)

@@ -46,6 +46,15 @@ mul-links-4 c = search needs
 slice-write-links-5 : tie.Need-slice-write-links-5
 slice-write-links-5 c = simp length-set (omega arith)
 
+add-links-5 : tie.Need-add-links-5
+add-links-5 c = search needs
+
+mul-links-5 : tie.Need-mul-links-5
+mul-links-5 c = search needs
+
+slice-write-links-6 : tie.Need-slice-write-links-6
+slice-write-links-6 c = simp length-set (omega arith)
+
 same-length : tie.Need-same-length
 same-length c = search needs
 
@@ -70,5 +79,8 @@ first-links-spec =
     add-links-4
     mul-links-4
     slice-write-links-5
+    add-links-5
+    mul-links-5
+    slice-write-links-6
     same-length
     returns)

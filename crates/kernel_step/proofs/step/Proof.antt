@@ -1,11 +1,13 @@
--- `step` is entered, then refused, or goes on to the call's own part.
+-- `step` sets the day, or is entered, then refused, or goes on to the call's own part.
 use Prim.Native.Nat.{ℕ}
-use mathlib.Core.Path.{_≡_, refl}
+use mathlib.Core.Path.{_≡_, refl, sym, _∙_}
+use mathlib.Core.Logic.{_≢_}
 use native.Mathlib.Omega.{arith}
 use mir.Val.{Fits}
 use mir.Syntax.{w32}
 use lib.ListN.{getD}
 use borrow.Author.Needs.{needs, elem-fits-field}
+use Rattle.rules.specs.Rights.{dayNumber}
 use Rattle.rules.specs.Call.{Call}
 use Rattle.rules.specs.Demand.{Words}
 use Rattle.layout.proofs.Plain.{plain}
@@ -17,12 +19,12 @@ use Rattle.call_enter.proofs.Beginning.{enter-begins}
 use Rattle.call_enter.proofs.Stepping.{step-stops, step-begins}
 use Rattle.kernel_step.specs.Slices.{Slices, slices, callOn}
 use Rattle.kernel_step.specs.Own.{ownRun}
-use Rattle.kernel_step.specs.Run.{stepRun}
 use Rattle.kernel_step.specs.Ends.{StepEnds}
 use Rattle.kernel_step.specs.Steps.{Stepped}
 use Rattle.kernel_step.proofs.Asked.{own-asks}
 use Rattle.kernel_step.proofs.Promising.{stepped}
-use Rattle.kernel_step.proofs.Replying.{ends-refused, ends-of}
+use Rattle.kernel_step.proofs.Replying.{ends-refused, ends-replies, day-keeps, ends-same, ends-of}
+use Rattle.kernel_step.proofs.Choosing.{step-host, step-process}
 use Rattle.kernel_step.proofs.step.Statement.{statement}
 use Rattle.kernel_step.proofs.step.Tie as tie
 
@@ -66,14 +68,34 @@ promised a E = stepped (a .pre) (words a) E
 
 -- from the place where the call is entered
 abbrev start : tie.After-enter → tie.Start
-start e = e .before .before .before .before .before .before .before .before .before .before
+start e = e .before .before .before .before .before .before .before .before .before .before .before .before
+
+process : (e : tie.After-enter) → start e .args .req .number ≢ dayNumber
+process e = e .before .before .before .before .if1 .left
 
 entered : (e : tie.After-enter) → entryOf (e .enter .result) (e .enter .last .0) (e .enter .last .1 .1 .0)
     ≡ entry (start e .args .bytes .now) (start e .args .links .now) (start e .args .words .now) (call (start e))
 entered e = e .enter .ensures (start e .args .text .now) refl
 
+set-day-requires : tie.Need-set-day-requires
+set-day-requires c κs = search needs
+
+same-length : tie.Need-same-length
+same-length c = search needs
+
+returns : tie.Need-returns
+unfolding callOf
+returns c =
+    let d = c .before .before in
+    let t = d .before .before in
+    let a = t .before .before .before .before .before .before .before .before in
+    promised a (ends-same
+    (ends-replies (day-keeps (a .args .req .number) (t .if1 .taken))
+    (d .set-day .ensures (a .args .bytes .now) (a .args .words .now)) refl refl)
+    (sym (step-host (a .args .bytes .now) (a .args .links .now) (a .args .words .now) (call a) (t .if1 .taken))))
+
 enter-requires : tie.Need-enter-requires
-enter-requires c κs = plain (c .before .before .before .before .before .before .before .before .before .pre)
+enter-requires c κs = plain (c .before .before .before .before .before .before .before .before .before .before .before .pre)
 
 own-requires : tie.Need-own-requires
 own-requires c κs =
@@ -81,10 +103,7 @@ own-requires c κs =
     let e = t .before .before .before .before .before .before in
     let a = start e in
     own-asks (a .pre .shape) (enter-begins (plain (a .pre)) (call a) (e .enter .result) (e .enter .last .0)
-    (e .enter .last .1 .1 .0) (entered e) (t .if1 .taken))
-
-same-length : tie.Need-same-length
-same-length c = search needs
+    (e .enter .last .1 .1 .0) (entered e) (t .if2 .taken))
 
 same-length-2 : tie.Need-same-length-2
 same-length-2 c = search needs
@@ -98,22 +117,23 @@ same-length-4 c = search needs
 same-length-5 : tie.Need-same-length-5
 same-length-5 c = search needs
 
-returns : tie.Need-returns
-unfolding callOf stepRun
-returns c =
+same-length-6 : tie.Need-same-length-6
+same-length-6 c = search needs
+
+returns-2 : tie.Need-returns-2
+unfolding callOf
+returns-2 c =
     let o = c .before .before .before .before .before .before .before .before .before .before in
     let t = o .before .before .before .before .before .before in
     let e = t .before .before .before .before .before .before in
     let a = start e in
     promised a (ends-of (o .own .ensures)
     (step-begins ownRun (a .args .links .now) (call a) (a .args .bytes .now) (a .args .words .now) (e .enter .result)
-    (e .enter .last .0) (e .enter .last .1 .1 .0) (entered e) (t .if1 .taken)))
+    (e .enter .last .0) (e .enter .last .1 .1 .0) (entered e) (t .if2 .taken)
+    ∙ sym (step-process (a .args .bytes .now) (a .args .links .now) (a .args .words .now) (call a) (process e))))
 
 refused-requires : tie.Need-refused-requires
 refused-requires c κs = search needs
-
-same-length-6 : tie.Need-same-length-6
-same-length-6 c = search needs
 
 same-length-7 : tie.Need-same-length-7
 same-length-7 c = search needs
@@ -121,30 +141,37 @@ same-length-7 c = search needs
 same-length-8 : tie.Need-same-length-8
 same-length-8 c = search needs
 
-returns-2 : tie.Need-returns-2
-unfolding callOf stepRun
-returns-2 c =
+same-length-9 : tie.Need-same-length-9
+same-length-9 c = search needs
+
+returns-3 : tie.Need-returns-3
+unfolding callOf
+returns-3 c =
     let t = c .before in
     let e = t .before .before .before .before .before .before in
     let a = start e in
-    promised a (ends-refused (t .if1 .left) (c .refused .ensures)
+    promised a (ends-refused (t .if2 .left) (c .refused .ensures)
     (step-stops ownRun (a .args .links .now) (call a) (a .args .bytes .now) (a .args .words .now) (e .enter .result)
-    (e .enter .last .0) (e .enter .last .1 .1 .0) (entered e) (t .if1 .left)) refl refl)
+    (e .enter .last .0) (e .enter .last .1 .1 .0) (entered e) (t .if2 .left)
+    ∙ sym (step-process (a .args .bytes .now) (a .args .links .now) (a .args .words .now) (call a) (process e))) refl refl)
 
 pub step-spec : {M : Type 1} → statement M
 step-spec =
     tie.close
     (tie.spec
+    set-day-requires
+    same-length
+    returns
     enter-requires
     own-requires
-    same-length
     same-length-2
     same-length-3
     same-length-4
     same-length-5
-    returns
-    refused-requires
     same-length-6
+    returns-2
+    refused-requires
     same-length-7
     same-length-8
-    returns-2)
+    same-length-9
+    returns-3)

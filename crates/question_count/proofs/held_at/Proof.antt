@@ -1,14 +1,18 @@
--- `held_at` reads the owner, and where it is the object the rights.
+-- `held_at` reads the owner, and where it is the object the last day and the rights.
 use borrow.Author.Needs.{needs}
 use Prim.Native.Nat.{ℕ}
 use mathlib.Core.Path.{_≡_, sym, _∙_}
-use mathlib.Core.Bool.{Bool, true, false}
+use mathlib.Core.Bool.{Bool, true, false, not, _&&_}
 use mathlib.Core.List.{List}
 use Rattle.rules.specs.Slots.{one}
+use Rattle.rules.specs.Store.{State}
+use Rattle.rules.specs.Rights.{has}
+use Rattle.rules.specs.Refusals.{expired}
 use Rattle.layout.specs.Layout as Layout
 use Rattle.layout.specs.Rows.{ownerOf}
 use Rattle.layout.specs.View.{view}
 use Rattle.layout.proofs.Field.{row}
+use Rattle.call_steps.specs.Run.{Held}
 use Rattle.question_count.specs.Holding.{holds}
 use Rattle.question_count.proofs.Counting.{held-not, held-by}
 use Rattle.question_count.proofs.held_at.Statement.{statement}
@@ -33,37 +37,58 @@ shared-slice-read-slot c = search needs
 slot-requires : tie.Need-slot-requires
 slot-requires c κs = search needs
 
+-- it is the object's
+held : (c : tie.Then1) → Held (start (c .before) .args .links .now) (start (c .before) .args .i)
+held c =
+    let s = start (c .before) in
+    record {
+      low = s .pre .1 .0 .low;
+      high = s .pre .1 .0 .high;
+      live = λ z. s .pre .1 .1 (sym (c .if1 .taken) ∙ owner (c .before) ∙ z);
+    }
+
+expired-requires : tie.Need-expired-requires
+expired-requires c κs = (start (c .before) .pre .0, held c)
+
 right-held-requires : tie.Need-right-held-requires
 right-held-requires c κs =
-    let s = start (c .before) in (
-      s .pre .0,
-      record {
-        low = s .pre .1 .0 .low;
-        high = s .pre .1 .0 .high;
-        live = λ z. s .pre .1 .1 (sym (c .if1 .taken) ∙ owner (c .before) ∙ z);
-      },
-    )
+    let f = c .before .before in
+    (start (f .before) .pre .0, held f)
 
--- it is the object's, and the right is asked of it
-by-right : (c : tie.After-right-held) (t : Bool) → c .right-held .result ≡ t → (b w : List ℕ)
-    → one t ≡ one (holds (view b (start (c .before .before) .args .links .now) w) (start (c .before .before) .args .o)
-    (start (c .before .before) .args .right .0) (start (c .before .before) .args .i))
-by-right c t h b w =
-    let f = c .before in
+-- and t says whether it is not expired and holds the right
+by-cap : (f : tie.Then1) (b w : List ℕ) (t : Bool) → (let s = start (f .before) in
+    let v : State = view b (s .args .links .now) w in
+    (not (expired v (s .args .i)) && has (v .cap (s .args .i) .rights) (s .args .right .0)) ≡ t
+    → one t ≡ one (holds v (s .args .o) (s .args .right .0) (s .args .i)))
+by-cap f b w t h =
     let s = start (f .before) in
     held-by b (s .args .links .now) w (s .args .i) (s .args .o) (s .args .right .0)
-    (sym (owner (f .before)) ∙ f .if1 .taken) (s .pre .1 .1) t (sym (c .right-held .ensures b w) ∙ h)
+    (sym (owner (f .before)) ∙ f .if1 .taken) (s .pre .1 .1) t h
 
 returns : tie.Need-returns
 unfolding one
-returns c = by-right (c .before) true (c .if2 .taken)
+returns c b w = by-cap (c .before .before) b w false (rw (sym (c .before .expired .ensures b w) ∙ c .if2 .taken))
 
 returns-2 : tie.Need-returns-2
 unfolding one
-returns-2 c = by-right (c .before) false (c .if2 .left)
+returns-2 c b w =
+    let e = c .before .before in
+    by-cap (e .before .before) b w true (rw (
+      sym (e .before .expired .ensures b w) ∙ e .if2 .left,
+      sym (c .before .right-held .ensures b w) ∙ c .if3 .taken,
+    ))
 
 returns-3 : tie.Need-returns-3
+unfolding one
 returns-3 c b w =
+    let e = c .before .before in
+    by-cap (e .before .before) b w false (rw (
+      sym (e .before .expired .ensures b w) ∙ e .if2 .left,
+      sym (c .before .right-held .ensures b w) ∙ c .if3 .left,
+    ))
+
+returns-4 : tie.Need-returns-4
+returns-4 c b w =
     let s = start (c .before) in
     held-not b (s .args .links .now) w (s .args .i) (s .args .o) (s .args .right .0)
     (λ e. c .if1 .left (owner (c .before) ∙ e))
@@ -76,7 +101,9 @@ held-at-spec =
     mul-slot
     shared-slice-read-slot
     slot-requires
-    right-held-requires
+    expired-requires
     returns
+    right-held-requires
     returns-2
-    returns-3)
+    returns-3
+    returns-4)

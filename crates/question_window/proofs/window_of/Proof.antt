@@ -1,4 +1,4 @@
--- `window_of` is refused by 2, 3, 5 or 6, or reads the window.
+-- `window_of` is refused by 2, 3, 5, 19 or 6, or reads the window.
 use mathlib.Core.Path.{_≡_, sym, ap, ap₂, _∙_}
 use mathlib.Core.Bool.{Bool, true, _&&_}
 use borrow.Author.Needs.{needs}
@@ -53,7 +53,7 @@ process c =
     let a = start (names (c .before .before)) in
     running-process (a .args .bytes .now) (a .args .links .now) (a .args .words .now) _ (runs (c .before) ∙ c .if2 .taken)
 
--- ---- 5 and 6 are not met
+-- ---- 5, 19 and 6 are not met
 
 held : (c : tie.Then3) → Held (start (names (c .before .before .before .before .before)) .args .links .now)
     (c .before .before .admit .result .slot)

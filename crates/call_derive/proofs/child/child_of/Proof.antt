@@ -12,38 +12,50 @@ use Rattle.call_derive.proofs.child.child_of.Tie as tie
 window-at-requires : tie.Need-window-at-requires
 window-at-requires c κs = search needs
 
-add-t10 : tie.Need-add-t10
-add-t10 c = search needs
+add-parents : tie.Need-add-parents
+add-parents c = search needs
 
-mul-t11 : tie.Need-mul-t11
-mul-t11 c = search needs
+mul-parents : tie.Need-mul-parents
+mul-parents c = search needs
 
-shared-slice-read-t13 : tie.Need-shared-slice-read-t13
-shared-slice-read-t13 c = search needs
+shared-slice-read-parents : tie.Need-shared-slice-read-parents
+shared-slice-read-parents c = search needs
 
-cast-t13 : tie.Need-cast-t13
-cast-t13 c = search needs
+cast-parents : tie.Need-cast-parents
+cast-parents c = search needs
 
-add-t10-2 : tie.Need-add-t10-2
-add-t10-2 c = search needs
+cast-given : tie.Need-cast-given
+cast-given c = search needs
 
-mul-t11-2 : tie.Need-mul-t11-2
-mul-t11-2 c = search needs
+add-parents-2 : tie.Need-add-parents-2
+add-parents-2 c = search needs
 
-shared-slice-read-t13-2 : tie.Need-shared-slice-read-t13-2
-shared-slice-read-t13-2 c = search needs
+mul-parents-2 : tie.Need-mul-parents-2
+mul-parents-2 c = search needs
 
-cast-t15 : tie.Need-cast-t15
-cast-t15 c = search needs
+shared-slice-read-parents-2 : tie.Need-shared-slice-read-parents-2
+shared-slice-read-parents-2 c = search needs
 
-add-t16 : tie.Need-add-t16
-add-t16 c = search needs
+add-t13 : tie.Need-add-t13
+add-t13 c = search needs
 
-mul-t17 : tie.Need-mul-t17
-mul-t17 c = search needs
+mul-t14 : tie.Need-mul-t14
+mul-t14 c = search needs
 
-shared-slice-read-t19 : tie.Need-shared-slice-read-t19
-shared-slice-read-t19 c = search needs
+shared-slice-read-t16 : tie.Need-shared-slice-read-t16
+shared-slice-read-t16 c = search needs
+
+cast-t19 : tie.Need-cast-t19
+cast-t19 c = search needs
+
+add-t20 : tie.Need-add-t20
+add-t20 c = search needs
+
+mul-t21 : tie.Need-mul-t21
+mul-t21 c = search needs
+
+shared-slice-read-t23 : tie.Need-shared-slice-read-t23
+shared-slice-read-t23 c = search needs
 
 both-requires : tie.Need-both-requires
 both-requires c κs = search needs
@@ -51,15 +63,20 @@ both-requires c κs = search needs
 moved-requires : tie.Need-moved-requires
 moved-requires c κs = search needs
 
+earlier-requires : tie.Need-earlier-requires
+earlier-requires c κs = search needs
+
 returns : tie.Need-returns
 returns c =
-    let w = c .before .before .before .before .before in
+    let m = c .before in
+    let w = m .before .before .before .before .before .before in
     let s = w .before .before .before in
     let a = s .args in
     let at = s .pre .slot in
     record {
-      cap = child-cells (a .links .now) (a .words .now) (a .k) (a .rights) (windowOf (a .range)) (passwordOf (a .drawn)) at _ _
-          (c .moved .ensures ∙ ap (moved (windowOf (a .range))) (w .window-at .ensures)) (c .before .both .ensures);
+      cap = child-cells (a .links .now) (a .words .now) (a .k) (a .rights) (windowOf (a .range)) (passwordOf (a .drawn))
+          (a .last-day) at _ _ _ (m .moved .ensures ∙ ap (moved (windowOf (a .range))) (w .window-at .ensures))
+          (m .before .both .ensures) (c .earlier .ensures);
       next = sym (row Layout.«FIRST_CHILD» (a .links .now) (a .k) at);
     }
 
@@ -68,17 +85,22 @@ child-of-spec =
     tie.close
     (tie.spec
     window-at-requires
-    add-t10
-    mul-t11
-    shared-slice-read-t13
-    cast-t13
-    add-t10-2
-    mul-t11-2
-    shared-slice-read-t13-2
-    cast-t15
-    add-t16
-    mul-t17
-    shared-slice-read-t19
+    add-parents
+    mul-parents
+    shared-slice-read-parents
+    cast-parents
+    cast-given
+    add-parents-2
+    mul-parents-2
+    shared-slice-read-parents-2
+    add-t13
+    mul-t14
+    shared-slice-read-t16
+    cast-t19
+    add-t20
+    mul-t21
+    shared-slice-read-t23
     both-requires
     moved-requires
+    earlier-requires
     returns)

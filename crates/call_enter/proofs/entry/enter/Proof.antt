@@ -1,4 +1,4 @@
--- `enter` is refused by 2, 3 or 4, or pays the fee and goes on to 5 and 6.
+-- `enter` is refused by 2, 3 or 4, or pays the fee and goes on to 5, 19 and 6.
 use Prim.Native.Nat.{ℕ, _≤_}
 use mathlib.Core.Path.{_≡_, sym, _∙_}
 use mathlib.Core.Bool.{true}

@@ -74,6 +74,15 @@ mul-links-7 c = search needs
 slice-write-links-7 : tie.Need-slice-write-links-7
 slice-write-links-7 c = simp length-set (omega arith)
 
+add-links-8 : tie.Need-add-links-8
+add-links-8 c = search needs
+
+mul-links-8 : tie.Need-mul-links-8
+mul-links-8 c = search needs
+
+slice-write-links-8 : tie.Need-slice-write-links-8
+slice-write-links-8 c = simp length-set (omega arith)
+
 same-length : tie.Need-same-length
 same-length c = search needs
 
@@ -110,5 +119,8 @@ write-links-spec =
     add-links-7
     mul-links-7
     slice-write-links-7
+    add-links-8
+    mul-links-8
+    slice-write-links-8
     same-length
     returns)

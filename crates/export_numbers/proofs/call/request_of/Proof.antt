@@ -46,10 +46,16 @@ shared-slice-read-t24 c = search needs
 shared-slice-read-t27 : tie.Need-shared-slice-read-t27
 shared-slice-read-t27 c = search needs
 
+shared-slice-read-t29 : tie.Need-shared-slice-read-t29
+shared-slice-read-t29 c = search needs
+
+shared-slice-read-t31 : tie.Need-shared-slice-read-t31
+shared-slice-read-t31 c = search needs
+
 returns : tie.Need-returns
 unfolding requestOf
 returns c =
-    let w = c .before .before .before .before in
+    let w = c .before .before .before .before .before .before in
     let n = w .before .before .before .before .before .before in
     rw (n .before .before .name-at .ensures, n .before .capability-at .ensures, n .name-at2 .ensures, w .window-at .ensures)
 
@@ -71,4 +77,6 @@ request-of-spec =
     shared-slice-read-t22
     shared-slice-read-t24
     shared-slice-read-t27
+    shared-slice-read-t29
+    shared-slice-read-t31
     returns)

@@ -1,16 +1,16 @@
 -- `request_of` is the rules' `callOf`, field by field.
-use mathlib.Core.Path.{refl, ap, _∙_}
 use native.Mathlib.Omega.{arith}
 use denote.Ref.{now}
 use Rattle.rules.specs.Limit as Limit
 use Rattle.rules.specs.Rights.{op}
 use Rattle.rules.specs.Fields.{callerVolume, callerSerial, capVolume, capSerial, capP1, capP2, volume, size, flag}
-use Rattle.rules.specs.Fields.{rights, serial, p1, p2, start, end, sum, word1, word2}
+use Rattle.rules.specs.Fields.{rights, serial, p1, p2, start, end, sum, word1, word2, day}
 use Rattle.rules.specs.Script.{nth}
 use Rattle.rules.specs.Script.{callOf as Script·callOf}
 use Rattle.call_steps.specs.Request.{callOf}
 use Rattle.script_lines.specs.Table as Table
-use Rattle.script_lines.proofs.Lacking.{said-in, said-in-after, limit-in}
+use Rattle.script_lines.proofs.Rows.{of-number}
+use Rattle.script_lines.proofs.Lacking.{said-in, after-in, limit-in, last-day-in}
 use borrow.Author.Needs.{needs}
 use Rattle.script_lines.proofs.request.request_of.Statement.{statement}
 use Rattle.script_lines.proofs.request.request_of.Tie as tie
@@ -21,8 +21,8 @@ nth-requires c κs = search needs
 column-requires : tie.Need-column-requires
 column-requires c κs = search needs
 
-lacks-limit-requires : tie.Need-lacks-limit-requires
-lacks-limit-requires c κs = search needs
+lacking-requires : tie.Need-lacking-requires
+lacking-requires c κs = search needs
 
 array-read-number-at : tie.Need-array-read-number-at
 array-read-number-at c = search needs
@@ -90,17 +90,17 @@ array-read-number-at-11 c = search needs
 number-at-requires-11 : tie.Need-number-at-requires-11
 number-at-requires-11 c κs = search needs
 
-array-read-after-limit : tie.Need-array-read-after-limit
-array-read-after-limit c = search needs
+array-read-number-after : tie.Need-array-read-number-after
+array-read-number-after c = search needs
 
-after-limit-requires : tie.Need-after-limit-requires
-after-limit-requires c κs = search needs
+number-after-requires : tie.Need-number-after-requires
+number-after-requires c κs = search needs
 
-array-read-after-limit-2 : tie.Need-array-read-after-limit-2
-array-read-after-limit-2 c = search needs
+array-read-number-after-2 : tie.Need-array-read-number-after-2
+array-read-number-after-2 c = search needs
 
-after-limit-requires-2 : tie.Need-after-limit-requires-2
-after-limit-requires-2 c κs = search needs
+number-after-requires-2 : tie.Need-number-after-requires-2
+number-after-requires-2 c κs = search needs
 
 array-read-number-at-12 : tie.Need-array-read-number-at-12
 array-read-number-at-12 c = search needs
@@ -132,37 +132,51 @@ array-read-number-at-16 c = omega (arith, c .before .before .before .before .bef
 number-at-requires-16 : tie.Need-number-at-requires-16
 number-at-requires-16 c κs = search needs
 
-array-read-limit-at : tie.Need-array-read-limit-at
-array-read-limit-at c = omega (arith, c .before .before .before .before .before .before .before .before .before .before .before .before .before .before .before .before .before .before .before .column .ensures .0)
+array-read-number-or : tie.Need-array-read-number-or
+array-read-number-or c = omega (arith, c .before .before .before .before .before .before .before .before .before .before .before .before .before .before .before .before .before .before .before .column .ensures .0)
 
-limit-at-requires : tie.Need-limit-at-requires
-limit-at-requires c κs = search needs
+number-or-requires : tie.Need-number-or-requires
+number-or-requires c κs = search needs
+
+array-read-number-or-2 : tie.Need-array-read-number-or-2
+array-read-number-or-2 c = omega (arith, c .before .before .before .before .before .before .before .before .before .before .before .before .before .before .before .before .before .before .before .before .column .ensures .0)
+
+number-or-requires-2 : tie.Need-number-or-requires-2
+number-or-requires-2 c κs = search needs
+
+array-read-number-at-17 : tie.Need-array-read-number-at-17
+array-read-number-at-17 c = omega (arith, c .before .before .before .before .before .before .before .before .before .before .before .before .before .before .before .before .before .before .before .before .before .column .ensures .0)
+
+number-at-requires-17 : tie.Need-number-at-requires-17
+number-at-requires-17 c κs = search needs
 
 returns : tie.Need-returns
 unfolding callOf Script·callOf Table.computes
 returns c =
-    let l = now (c .before .before .before .before .before .before .before .before .before .before .before .before .before .before .before .before .before .before .before .before .before .before .before .args .numbers) in
-    let e = c .before .before .before .before .before .before .before .before .before .before .before .before .before .before .before .before .before .before .before .before .column .ensures .1 ∙ ap op (c .before .before .before .before .before .before .before .before .before .before .before .before .before .before .before .before .before .before .before .before .before .nth .ensures) in
-    let lacks = (c .before .before .before .before .before .before .before .before .before .before .before .before .before .before .before .before .before .before .before .lacks-limit .ensures) in
+    let l = now (c .before .before .before .before .before .before .before .before .before .before .before .before .before .before .before .before .before .before .before .before .before .before .before .before .before .args .numbers) in
+    let k = of-number (c .before .before .before .before .before .before .before .before .before .before .before .before .before .before .before .before .before .before .before .before .before .before .column .ensures) (c .before .before .before .before .before .before .before .before .before .before .before .before .before .before .before .before .before .before .before .before .before .before .before .nth .ensures) in
+    let lacks = c .before .before .before .before .before .before .before .before .before .before .before .before .before .before .before .before .before .before .before .before .before .lacking .ensures in
     λ i. record {
-      number = (c .before .before .before .before .before .before .before .before .before .before .before .before .before .before .before .before .before .before .before .before .before .nth .ensures) i;
-      caller = record { volume = said-in callerVolume (omega arith) _ _ _ _ e (c .before .before .before .before .before .before .before .before .before .before .before .before .before .before .before .before .before .before .number-at .ensures) i; serial = said-in callerSerial (omega arith) _ _ _ _ e (c .before .before .before .before .before .before .before .before .before .before .before .before .before .before .before .before .before .number-at2 .ensures) i };
+      number = (c .before .before .before .before .before .before .before .before .before .before .before .before .before .before .before .before .before .before .before .before .before .before .before .nth .ensures) i;
+      caller = record { volume = said-in callerVolume (omega arith) _ _ _ _ k (c .before .before .before .before .before .before .before .before .before .before .before .before .before .before .before .before .before .before .before .before .number-at .ensures) i; serial = said-in callerSerial (omega arith) _ _ _ _ k (c .before .before .before .before .before .before .before .before .before .before .before .before .before .before .before .before .before .before .before .number-at2 .ensures) i };
       presented = record {
-        name = record { volume = said-in capVolume (omega arith) _ _ _ _ e (c .before .before .before .before .before .before .before .before .before .before .before .before .before .before .before .before .number-at3 .ensures) i; serial = said-in capSerial (omega arith) _ _ _ _ e (c .before .before .before .before .before .before .before .before .before .before .before .before .before .before .before .number-at4 .ensures) i };
-        password = record { p1 = said-in capP1 (omega arith) _ _ _ _ e (c .before .before .before .before .before .before .before .before .before .before .before .before .before .before .number-at5 .ensures) i; p2 = said-in capP2 (omega arith) _ _ _ _ e (c .before .before .before .before .before .before .before .before .before .before .before .before .before .number-at6 .ensures) i };
+        name = record { volume = said-in capVolume (omega arith) _ _ _ _ k (c .before .before .before .before .before .before .before .before .before .before .before .before .before .before .before .before .before .before .number-at3 .ensures) i; serial = said-in capSerial (omega arith) _ _ _ _ k (c .before .before .before .before .before .before .before .before .before .before .before .before .before .before .before .before .before .number-at4 .ensures) i };
+        password = record { p1 = said-in capP1 (omega arith) _ _ _ _ k (c .before .before .before .before .before .before .before .before .before .before .before .before .before .before .before .before .number-at5 .ensures) i; p2 = said-in capP2 (omega arith) _ _ _ _ k (c .before .before .before .before .before .before .before .before .before .before .before .before .before .before .before .number-at6 .ensures) i };
       };
-      name = record { volume = said-in volume (omega arith) _ _ _ _ e (c .before .before .before .before .before .before .before .before .before .before .before .before .number-at7 .ensures) i; serial = said-in serial (omega arith) _ _ _ _ e (c .before .before .before .before .before .before .before .before .before .before .before .number-at8 .ensures) i };
-      size = said-in size (omega arith) _ _ _ _ e (c .before .before .before .before .before .before .before .before .before .before .number-at9 .ensures) i;
-      flag = said-in flag (omega arith) _ _ _ _ e (c .before .before .before .before .before .before .before .before .before .number-at10 .ensures) i;
-      rights = said-in rights (omega arith) _ _ _ _ e (c .before .before .before .before .before .before .before .before .number-at11 .ensures) i;
-      drawn = record { p1 = said-in-after p1 0 refl _ _ _ _ _ e lacks (c .before .before .before .before .before .before .before .after-limit .ensures) i; p2 = said-in-after p2 1 refl _ _ _ _ _ e lacks (c .before .before .before .before .before .before .after-limit2 .ensures) i };
-      range = record { start = said-in start (omega arith) _ _ _ _ e (c .before .before .before .before .before .number-at12 .ensures) i; end = said-in end (omega arith) _ _ _ _ e (c .before .before .before .before .number-at13 .ensures) i };
-      sum = said-in sum (omega arith) _ _ _ _ e (c .before .before .before .number-at14 .ensures) i;
-      lock = record { first = said-in word1 (omega arith) _ _ _ _ e (c .before .before .number-at15 .ensures) i; second = said-in word2 (omega arith) _ _ _ _ e (c .before .number-at16 .ensures) i };
+      name = record { volume = said-in volume (omega arith) _ _ _ _ k (c .before .before .before .before .before .before .before .before .before .before .before .before .before .before .number-at7 .ensures) i; serial = said-in serial (omega arith) _ _ _ _ k (c .before .before .before .before .before .before .before .before .before .before .before .before .before .number-at8 .ensures) i };
+      size = said-in size (omega arith) _ _ _ _ k (c .before .before .before .before .before .before .before .before .before .before .before .before .number-at9 .ensures) i;
+      flag = said-in flag (omega arith) _ _ _ _ k (c .before .before .before .before .before .before .before .before .before .before .before .number-at10 .ensures) i;
+      rights = said-in rights (omega arith) _ _ _ _ k (c .before .before .before .before .before .before .before .before .before .before .number-at11 .ensures) i;
+      drawn = record { p1 = after-in p1 (omega arith) _ _ _ _ _ k lacks (c .before .before .before .before .before .before .before .before .before .number-after .ensures) i; p2 = after-in p2 (omega arith) _ _ _ _ _ k lacks (c .before .before .before .before .before .before .before .before .number-after2 .ensures) i };
+      range = record { start = said-in start (omega arith) _ _ _ _ k (c .before .before .before .before .before .before .before .number-at12 .ensures) i; end = said-in end (omega arith) _ _ _ _ k (c .before .before .before .before .before .before .number-at13 .ensures) i };
+      sum = said-in sum (omega arith) _ _ _ _ k (c .before .before .before .before .before .number-at14 .ensures) i;
+      lock = record { first = said-in word1 (omega arith) _ _ _ _ k (c .before .before .before .before .number-at15 .ensures) i; second = said-in word2 (omega arith) _ _ _ _ k (c .before .before .before .number-at16 .ensures) i };
       text = Script·callOf (op (nth l 0)) l .text;
       buffer = Limit.buffer;
       scratch = Limit.scratch;
-      limit = limit-in _ _ _ _ _ e lacks (c .limit-at .ensures) i;
+      limit = limit-in _ _ _ _ _ k lacks (c .before .before .number-or .ensures) i;
+      lastDay = last-day-in _ _ _ _ _ k lacks (c .before .number-or2 .ensures) i;
+      day = said-in day (omega arith) _ _ _ _ k (c .number-at17 .ensures) i;
     }
 
 pub request-of-spec : {M : Type 1} → statement M
@@ -171,7 +185,7 @@ request-of-spec =
     (tie.spec
     nth-requires
     column-requires
-    lacks-limit-requires
+    lacking-requires
     array-read-number-at
     number-at-requires
     array-read-number-at-2
@@ -194,10 +208,10 @@ request-of-spec =
     number-at-requires-10
     array-read-number-at-11
     number-at-requires-11
-    array-read-after-limit
-    after-limit-requires
-    array-read-after-limit-2
-    after-limit-requires-2
+    array-read-number-after
+    number-after-requires
+    array-read-number-after-2
+    number-after-requires-2
     array-read-number-at-12
     number-at-requires-12
     array-read-number-at-13
@@ -208,6 +222,10 @@ request-of-spec =
     number-at-requires-15
     array-read-number-at-16
     number-at-requires-16
-    array-read-limit-at
-    limit-at-requires
+    array-read-number-or
+    number-or-requires
+    array-read-number-or-2
+    number-or-requires-2
+    array-read-number-at-17
+    number-at-requires-17
     returns)

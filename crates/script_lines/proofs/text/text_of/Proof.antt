@@ -1,9 +1,8 @@
 -- `text_of` copies what the line has from the place of its bytes on.
-use mathlib.Core.Path.{ap, _∙_}
-use Rattle.rules.specs.Rights.{op}
+use mathlib.Core.Path.{_∙_}
 use Rattle.rules.specs.Fields.{text}
 use Rattle.script_lines.specs.Table as Table
-use Rattle.script_lines.proofs.Rows.{place-in}
+use Rattle.script_lines.proofs.Rows.{of-number, place-in}
 use Rattle.script_lines.proofs.Bytes.{line-bytes}
 use Rattle.script_lines.proofs.Calls.{no-front, bytes-front}
 use borrow.Author.Needs.{needs}
@@ -25,13 +24,13 @@ wide-requires c κs = search needs
 returns : tie.Need-returns
 unfolding Table.computes
 returns c =
-    let e = c .before .before .column .ensures .1 ∙ ap op (c .before .before .before .nth .ensures) in
+    let e = of-number (c .before .before .column .ensures) (c .before .before .before .nth .ensures) in
     no-front _ _ _ _ (c .before .wide .ensures ∙ place-in text _ _ e) (c .if1 .taken)
 
 copy-bytes-requires : tie.Need-copy-bytes-requires
 unfolding Table.computes
 copy-bytes-requires c κs =
-    let e = c .before .before .before .column .ensures .1 ∙ ap op (c .before .before .before .before .nth .ensures) in
+    let e = of-number (c .before .before .before .column .ensures) (c .before .before .before .before .nth .ensures) in
     line-bytes _ _ _ (c .before .before .before .before .before .before .before .pre) (c .before .before .wide .ensures ∙ place-in text _ _ e) (c .before .if1 .left)
 
 same-length : tie.Need-same-length
@@ -40,7 +39,7 @@ same-length c = search needs
 returns-2 : tie.Need-returns-2
 unfolding Table.computes
 returns-2 c =
-    let e = c .before .before .before .before .before .before .column .ensures .1 ∙ ap op (c .before .before .before .before .before .before .before .nth .ensures) in
+    let e = of-number (c .before .before .before .before .before .before .column .ensures) (c .before .before .before .before .before .before .before .nth .ensures) in
     bytes-front _ _ _ _ _ (c .before .before .before .before .before .wide .ensures ∙ place-in text _ _ e) (c .before .before .before .before .if1 .left) (c .before .before .copy-bytes .ensures)
 
 pub text-of-spec : {M : Type 1} → statement M

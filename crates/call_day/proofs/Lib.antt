@@ -1,0 +1,3 @@
+-- The proofs of call 17.
+pub mod Stops
+pub mod Meets

@@ -1,0 +1,2 @@
+-- What call 17 leaves, exactly.
+pub mod Runs

@@ -1,0 +1,2 @@
+-- Calls by numbers.
+pub mod Making

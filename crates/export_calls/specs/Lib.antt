@@ -1,0 +1,2 @@
+-- What a call by numbers promises.
+pub mod Exported

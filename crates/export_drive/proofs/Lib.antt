@@ -1,0 +1,2 @@
+-- Picks by numbers.
+pub mod Making

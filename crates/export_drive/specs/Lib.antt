@@ -1,0 +1,2 @@
+-- What a pick by numbers promises.
+pub mod Exported

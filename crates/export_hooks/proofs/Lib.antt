@@ -1,0 +1,2 @@
+-- Calls by hook, by numbers.
+pub mod Making

@@ -1,0 +1,2 @@
+-- The free questions by numbers.
+pub mod Making

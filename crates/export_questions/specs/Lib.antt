@@ -1,0 +1,2 @@
+-- What a free question by numbers promises.
+pub mod Told

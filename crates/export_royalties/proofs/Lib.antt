@@ -1,0 +1,2 @@
+-- Bills by numbers.
+pub mod Making

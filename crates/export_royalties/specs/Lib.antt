@@ -1,0 +1,2 @@
+-- What a bill by numbers promises.
+pub mod Exported
