@@ -14,7 +14,7 @@ use crate::numbers::*;
 use std::collections::BTreeSet;
 
 /// What derive_cap is tried with: mask, start, end, limit and last day.
-pub type Arguments = [u32; 5];
+type Arguments = [u32; 5];
 
 /// "a wish: rights, a window with start at most end, a sum and a last day"
 #[derive(Clone, Copy, Debug, PartialEq, Eq)]
@@ -35,7 +35,7 @@ fn around(number: u32, largest: u32) -> Vec<u32> {
 /// Rights, the same with one less and with one more, and all.
 fn masks(rights: u32) -> Vec<u32> {
     let fewer = rights & rights.saturating_sub(1);
-    let more = (rights | rights.saturating_add(1)) & MAX_RIGHTS;
+    let more = (rights | (rights + 1)) & MAX_RIGHTS;
     vec![rights, fewer, more, MAX_RIGHTS]
 }
 
@@ -139,18 +139,12 @@ impl LendPlace {
         children.any(|child| self.wish.is(&child))
     }
 
-    /// The place where derive_cap is tried with these arguments, or the refusal: "21, none in the
-    /// list will do, after 1 to 3".
-    pub fn among(&self, store: &Store, tries: &[Arguments]) -> Result<u32, Refusal> {
+    /// The place, or the refusal: "21, none in the list will do, after 1 to 3".
+    pub fn ask(&self, store: &Store) -> Result<u32, Refusal> {
         refuse_if(!self.in_range(), Refusal::OutOfRange)?;
         store.check_caller(self.caller)?;
-        let mut copy = self.copy(store);
-        let found = self.entries().position(|entry| self.lends(store, &mut copy, entry, tries));
+        let (mut copy, tries) = (self.copy(store), self.wish.arguments());
+        let found = self.entries().position(|entry| self.lends(store, &mut copy, entry, &tries));
         found.map(|before| before as u32 + 1).ok_or(Refusal::NoneWillDo)
-    }
-
-    /// The place, or the refusal.
-    pub fn ask(&self, store: &Store) -> Result<u32, Refusal> {
-        self.among(store, &self.wish.arguments())
     }
 }
