@@ -1,5 +1,5 @@
-//! Random runs of the profiles; and stores to try the checkers on: those met in such runs, the same
-//! damaged, and full ones of given shapes.
+//! Random runs of the profiles; and stores to try the checkers and the questions on: those met in
+//! such runs, the same damaged, full ones of given shapes, and what a script leaves.
 
 use crate::damage::{damage, Kind};
 use crate::encode::{encode, shuffled};
@@ -10,7 +10,8 @@ use crate::random::Random;
 use crate::raw::RawStore;
 use reference::call::Name;
 use reference::kernel::{Capability, Object, Store};
-use reference::numbers::{MAX_CAPS, MAX_DAY, MAX_RIGHTS};
+use reference::numbers::{DONE, MAX_CAPS, MAX_DAY, MAX_RIGHTS};
+use reference::script::{answer_line, read_numbers, start};
 use std::collections::BTreeSet;
 
 /// A random run of a profile, with something done after each call.
@@ -73,6 +74,16 @@ pub fn damaged_stores_of_runs(
             }
         }
     });
+}
+
+/// The store that a script leaves, line one first; every call in it is done.
+pub fn after_script(lines: &[&str]) -> Store {
+    let mut lines = lines.iter().map(|line| read_numbers(line.as_bytes()));
+    let mut store = lines.next().flatten().and_then(start).expect("a first line");
+    for line in lines {
+        assert_eq!(answer_line(&mut store, line.as_deref())[0], DONE, "{line:?}");
+    }
+    store
 }
 
 /// The shape of an object's tree: which of the earlier capabilities a new one derives from.
