@@ -8,8 +8,8 @@ use crate::oracle::well_formed;
 use crate::profiles::{Profile, PROFILES};
 use crate::random::Random;
 use crate::raw::RawStore;
-use reference::call::Name;
-use reference::kernel::{Capability, Object, Store};
+use reference::call::{Key, Name};
+use reference::kernel::{Capability, Object, Place, Store};
 use reference::numbers::{DONE, MAX_CAPS, MAX_DAY, MAX_RIGHTS};
 use reference::script::{answer_line, read_numbers, start};
 use std::collections::BTreeSet;
@@ -130,6 +130,14 @@ pub fn shaped(objects: u32, size: usize, tree: u32, shape: Shape, random: &mut R
         }
     }
     store
+}
+
+/// All capabilities as they are presented without a lockword, each after those on its climb.
+pub fn by_depth(store: &Store) -> Vec<Key> {
+    let key = |(name, p1): Place| Key { name, p1, p2: store.capabilities[&(name, p1)].p2 };
+    let mut places: Vec<Place> = store.capabilities.keys().copied().collect();
+    places.sort_by_cached_key(|place| store.climb(*place).len());
+    places.into_iter().map(key).collect()
 }
 
 /// So many random numbers, no two the same, in random order.
