@@ -131,7 +131,7 @@ fn every_comparison() {
 /// A fault in a question that would be answered 1.
 type Fault = fn(&mut LendPlace);
 
-const FAULTS: [Fault; 21] = [
+const FAULTS: [Fault; 23] = [
     |_| {},
     |asked| asked.list.push(1),
     |asked| asked.list = LOOM.numbers().repeat(MAX_ENTRIES + 1),
@@ -140,7 +140,7 @@ const FAULTS: [Fault; 21] = [
     |asked| asked.caller.volume = MAX_VOLUME + 1,
     |asked| asked.caller.serial = MAX_SERIAL + 1,
     |asked| asked.wish.rights |= MAX_RIGHTS + 1,
-    |asked| asked.wish.start = asked.wish.end + 1,
+    |asked| asked.wish.end = asked.wish.start - 1,
     |asked| asked.wish.last_day = MAX_DAY + 1,
     |asked| asked.caller.serial = 99,
     |asked| asked.caller = CARDS.name,
@@ -150,8 +150,10 @@ const FAULTS: [Fault; 21] = [
     |asked| asked.list = ROWS.numbers().into(),
     |asked| asked.wish.rights |= right::SEND,
     |asked| asked.wish.end = MAX_SIZE + 1,
+    |asked| asked.wish.end = MAX_WORD,
     |asked| asked.wish.last_day = MAX_DAY,
-    |asked| asked.wish.sum += 1,
+    |asked| asked.wish.sum = LENT.sum + 1,
+    |asked| asked.wish.sum = MAX_WORD,
     |asked| asked.list.extend(CARDS.numbers()),
 ];
 

@@ -102,7 +102,7 @@ impl Generator {
             (Some((name, _)), 3..=5) => store.tree(name).map(|(p1, _)| (name, p1)).collect(),
             (_, 6) => return self.overdrawn(store, all),
             (_, 7 | 8) => {
-                let drawn = (0..8).filter_map(|_| self.random.pick(all));
+                let drawn = (0..16).filter_map(|_| self.random.pick(all));
                 return drawn.max_by_key(|place| limit(store, *place));
             }
             _ => return self.random.pick(all),
@@ -159,7 +159,7 @@ impl Generator {
         let start = found.end - self.up_to(0, found.end - found.start);
         let end = self.up_to(start, found.end);
         let (sum, last_day) = (self.up_to(0, least), self.up_to(0, found.last_day));
-        if self.random.chance(200) {
+        if self.random.chance(350) {
             // a sum, and little else
             return Wish { rights: 0, start, end: start, sum, last_day: 0 };
         }
@@ -177,6 +177,7 @@ impl Generator {
                 wish.rights |= self.random.pick(&missing).unwrap_or(0);
             }
             2 => wish.start = found.start.saturating_sub(1),
+            3 if self.random.chance(200) => wish.end = MAX_WORD,
             3 => wish.end = found.end + 1,
             4 => wish.last_day = (found.last_day + 1).min(MAX_DAY),
             5 if self.random.chance(500) => (wish.start, wish.end) = (found.end + 1, found.end + 1),
@@ -185,6 +186,7 @@ impl Generator {
                 (wish.start, wish.end) = (before, before);
             }
             6..=8 => wish.sum = least.saturating_add(1),
+            _ if self.random.chance(200) => wish.sum = MAX_WORD,
             _ => {
                 let moneyword = self.random.pick(&moneywords(store, place)).unwrap_or(0);
                 wish.sum = moneyword.saturating_add(self.random.below(2));
@@ -463,7 +465,7 @@ const PASSED_OVER: [Scene<Tried>; 11] = [
 ];
 
 /// What questions must meet where none will do, for one reason alone.
-const NONE_OF_THEM: [Scene<Tried>; 22] = [
+const NONE_OF_THEM: [Scene<Tried>; 24] = [
     ("an empty list", NONE_WILL_DO, |tried| tried.asked.list.is_empty()),
     ("the most entries", NONE_WILL_DO, |tried| tried.entries.len() == MAX_ENTRIES),
     ("an absent object", NONE_WILL_DO, |tried| tried.all_by(Reason::Object)),
@@ -488,6 +490,7 @@ const NONE_OF_THEM: [Scene<Tried>; 22] = [
     ("an end one too late", NONE_WILL_DO, |tried| {
         tried.by_one(Reason::End, |_, found, wish| wish.end == found.end + 1)
     }),
+    ("the largest end", NONE_WILL_DO, |tried| tried.asked.wish.end == MAX_WORD),
     ("nothing after the window", NONE_WILL_DO, |tried| {
         tried.by_one(Reason::End, |_, _, wish| wish.start == wish.end)
     }),
@@ -503,6 +506,7 @@ const NONE_OF_THEM: [Scene<Tried>; 22] = [
             entry.climb.len() > 1 && entry.climb[0] == wish.sum - 1
         })
     }),
+    ("the largest sum", NONE_WILL_DO, |tried| tried.asked.wish.sum == MAX_WORD),
     ("too little between", NONE_WILL_DO, |tried| tried.all_by(Reason::Middle)),
     ("one too little between", NONE_WILL_DO, |tried| {
         tried.by_one(Reason::Middle, |entry, _, wish| {
