@@ -8,7 +8,8 @@ use Rattle.question_window.specs.declared.Windowed.{Windowed}
 use Rattle.question_window.specs.Asks as AsksWindow
 use Rattle.question_count.specs.declared.Counted.{Counted}
 use Rattle.question_count.specs.Asks as AsksCount
-use Rattle.export_numbers.specs.Numbers.{nameAt, capabilityAt, Fitting}
+use Rattle.call_steps.specs.Numbers.{nameAt, capabilityAt}
+use Rattle.export_numbers.specs.Numbers.{Fitting}
 use Rattle.export_numbers.specs.Window as WindowNumbers
 use Rattle.export_numbers.specs.Count as CountNumbers
 use Rattle.export_numbers.proofs.Making.{made-by, answered-by}

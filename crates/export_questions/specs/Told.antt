@@ -3,7 +3,7 @@ use Prim.Native.Nat.{ℕ}
 use mathlib.Core.List.{List}
 use Rattle.question_window.specs.Asks as Window
 use Rattle.question_count.specs.Asks as Count
-use Rattle.export_numbers.specs.Numbers.{nameAt, capabilityAt}
+use Rattle.call_steps.specs.Numbers.{nameAt, capabilityAt}
 use Rattle.export_numbers.specs.Window as WindowNumbers
 use Rattle.export_numbers.specs.Count as CountNumbers
 use Rattle.export_numbers.specs.Crossing.{Crosses, Answered, Untold}

@@ -1,9 +1,9 @@
 // The free questions by rows of numbers: the functions for C hand on to these.
 ghost use Rattle.export_questions.specs.Told.{WindowTold, CountTold};
+use call_steps::numbers::capability_at;
+use call_steps::numbers::name_at;
 use export_numbers::count;
-use export_numbers::numbers::capability_at;
 use export_numbers::numbers::fits;
-use export_numbers::numbers::name_at;
 use export_numbers::numbers::unfit;
 use export_numbers::window;
 use question_count::ask_count;
