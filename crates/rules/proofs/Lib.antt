@@ -42,6 +42,7 @@ pub mod Choices
 pub mod Runs
 pub mod Awake
 pub mod Asking
+pub mod Lending
 -- passwords that open
 pub mod Below
 pub mod Unlocking
