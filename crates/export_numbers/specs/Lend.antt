@@ -4,7 +4,7 @@ use mathlib.Core.List.{List, [], _∷_}
 use lib.ListN.{getD}
 use Rattle.question_lend.specs.declared.Wish.{Wish}
 use Rattle.question_lend.specs.declared.Lent.{Lent}
-use Rattle.export_numbers.specs.Numbers.{windowAt}
+use Rattle.call_steps.specs.Numbers.{windowAt}
 
 -- how many numbers a request and a reply have
 abbrev pub requestLength : ℕ

@@ -8,9 +8,9 @@ ghost use Rattle.rules.specs.Refusals.{nameFits};
 ghost use Rattle.rules.specs.Questions.{entries, entry, listFits};
 ghost use Rattle.call_steps.specs.Request.{capabilityOf};
 ghost use Rattle.question_lend.specs.Places.{Place};
+use call_steps::numbers::capability_at;
 use call_steps::ranges::name_fits;
 use call_steps::request::Capability;
-use call_steps::request::Name;
 use values::limit::ENTRY_NUMBERS;
 use values::limit::MAX_ENTRIES;
 
@@ -19,14 +19,7 @@ pub fn entry_at(list: &[u32], place: usize) -> Capability
     requires { ⌜ Place (now list) place ⌝ }
     ensures { λ r. ⌜ capabilityOf r ≡ entry (now (list .entry)) place ⌝ }
 {
-    let at = ENTRY_NUMBERS * (place - 1);
-    Capability {
-        name: Name {
-            volume: list[at],
-            serial: list[at + 1],
-        },
-        password: [list[at + 2], list[at + 3]],
-    }
+    capability_at(list, ENTRY_NUMBERS * (place - 1))
 }
 
 // The name of each entry is in range.
