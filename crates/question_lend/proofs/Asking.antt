@@ -31,7 +31,7 @@ unfolding unlent
 refused-one r e = ap (λ (a : Questions.Lent). a .code) e
 
 module _ (s : State) (caller : Store.Name) (l : List ℕ) (x : Wish) where
-  asked-refused : (n : ℕ) (r : Questions.Lent) → first (lendRefuses s caller l x) ≡ n → n ≢ Code.done → r ≡ unlent n
+  pub asked-refused : (n : ℕ) (r : Questions.Lent) → first (lendRefuses s caller l x) ≡ n → n ≢ Code.done → r ≡ unlent n
       → LendAsked s caller l x r
   asked-refused n r e nz q = record {
     refused = λ _. q ∙ ap unlent (sym e);

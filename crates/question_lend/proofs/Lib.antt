@@ -3,3 +3,4 @@ pub mod Listing
 pub mod Comparing
 pub mod Searching
 pub mod Asking
+pub mod Edges

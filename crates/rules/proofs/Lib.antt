@@ -48,6 +48,7 @@ pub mod Below
 pub mod Unlocking
 pub mod Counting
 pub mod Theorems
+pub mod Played
 -- which free slots are taken is not seen: slots one to one, two states that differ in their slots alone, the calls on them
 pub mod Carried
 pub mod Onto
