@@ -67,11 +67,11 @@ pub fn lend_by_numbers(
         (now (request .entry)) r (now (reply .entry)) (now (reply .exit)) ⌝ }
 {
     if fits(request.len(), lend::REQUEST, reply.len(), lend::REPLY) {
-        let caller = name_at(request, 0);
+        let lender = name_at(request, 0);
         let wish = lend::wish_of(request);
-        let answer = ask_lend(bytes, links, words, list, caller, wish);
-        lend::put_lent(answer, reply);
-        return answer.code;
+        let lent = ask_lend(bytes, links, words, list, lender, wish);
+        lend::put_lent(lent, reply);
+        return lent.code;
     }
     unfit(bytes, links, words)
 }
