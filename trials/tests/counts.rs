@@ -3,8 +3,6 @@
 //! and every right asked.
 //! And the examples of the verified definitions.
 
-mod table;
-
 use reference::call::Name;
 use reference::counting::PasswordCount;
 use reference::kernel::Store;
@@ -13,6 +11,7 @@ use std::collections::BTreeMap;
 use trials::counts::{Tried, SCENES};
 use trials::met::Met;
 use trials::samples::{after_script, calls_of_runs};
+use trials::table;
 
 /// The answer's code and its number.
 fn expected(store: &Store, asked: &PasswordCount) -> (u32, u32) {
