@@ -109,7 +109,7 @@ pub record Fulfils (s : State) (i : ℕ) (x : Wish) : Type 0 where
 
 -- "some derive_cap gives" it: a call by which the caller presents e, with any mask, range, limit and last day that are in range,
 -- does so in whatever slot it takes. "Free records, fees and drawn numbers are not considered": 4, 12 and 13 are not asked
-pub record Gives (s : State) (caller : Name) (e : Capability) (x : Wish) : Type 0 where
+pub record Gives (s : State) (caller : Name) (x : Wish) (e : Capability) : Type 0 where
   pub call : Call
   pub is : op (call .number) ≡ deriveCap
   pub by : call .caller ≡ caller
@@ -122,7 +122,7 @@ pub record Gives (s : State) (caller : Name) (e : Capability) (x : Wish) : Type 
 pub record Lends (s : State) (caller : Name) (x : Wish) (e : Capability) : Type 0 where
   -- "That one must pass the mill's own password test, not be expired, and hold DERIVE_CAP": 5, 19 and 6
   pub shows : first (showing s (shownSlot s caller e) «DERIVE_CAP») ≡ Code.done
-  pub gives : Gives s caller e x
+  pub gives : Gives s caller x e
   -- "every moneyword from the listed one up to its master being at least the sum"
   pub enough : (i : ℕ) → descends s (shownSlot s caller e) i ≡ true → x .sum ≤ s .money i
 
