@@ -132,14 +132,7 @@ fn first_place(
 }
 
 // The question, on a store that is known to be plain.
-pub fn lend_of(
-    bytes: &[u8],
-    links: &[u16],
-    words: &[u32],
-    list: &[u32],
-    caller: Name,
-    x: Wish,
-) -> Lent
+fn lend_of(bytes: &[u8], links: &[u16], words: &[u32], list: &[u32], caller: Name, x: Wish) -> Lent
     requires { ⌜ Plain (now bytes) (now links) (now words) ⌝ }
     ensures { λ r. ⌜ LendAsked (view (now (bytes .entry)) (now (links .entry)) (now (words .entry)))
         (nameOf caller) (now (list .entry)) (wishOf x) (lentOf r) ⌝ }
