@@ -43,6 +43,21 @@ extern "C" {
 
     fn hook_turn(pattern: *mut u8, pattern_length: usize);
 
+    fn lend_place(
+        bytes: *const u8,
+        bytes_length: usize,
+        links: *const u16,
+        links_length: usize,
+        words: *const u32,
+        words_length: usize,
+        list: *const u32,
+        list_length: usize,
+        request: *const u32,
+        request_length: usize,
+        reply: *mut u32,
+        reply_length: usize,
+    ) -> u32;
+
     fn royalty_bill(
         bytes: *mut u8,
         bytes_length: usize,
@@ -304,6 +319,29 @@ pub fn window(raw: &RawStore, request: &[u32], reply: &mut [u32]) -> u32 {
 /// The question for the number of passwords, in the same way.
 pub fn count(raw: &RawStore, request: &[u32], reply: &mut [u32]) -> u32 {
     ask(password_count, raw, request, reply)
+}
+
+/// The question what can be lent from a list, in the same way.
+pub fn lend(raw: &RawStore, list: &[u32], request: &[u32], reply: &mut [u32]) -> u32 {
+    let RawStore { bytes, links, words } = raw;
+    // SAFETY: each pointer comes with its slice's length; the reply, which alone is written, is
+    // lent for writing.
+    unsafe {
+        lend_place(
+            bytes.as_ptr(),
+            bytes.len(),
+            links.as_ptr(),
+            links.len(),
+            words.as_ptr(),
+            words.len(),
+            list.as_ptr(),
+            list.len(),
+            request.as_ptr(),
+            request.len(),
+            reply.as_mut_ptr(),
+            reply.len(),
+        )
+    }
 }
 
 /// The type of `drive_pick`, `drive_pick_unchecked` and `hook_read`.

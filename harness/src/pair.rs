@@ -3,14 +3,15 @@
 
 use crate::kernel::{self, FormedStore};
 use crate::request::{
-    answer, bill_request, billed, count_request, hook_request, pick_request, picked,
-    window_request, Request, BILL_REPLY, COUNT_REPLY, PICK_REPLY, REPLY, WINDOW_REPLY,
+    answer, bill_request, billed, count_request, hook_request, lend_request, pick_request, picked,
+    window_request, Request, BILL_REPLY, COUNT_REPLY, LEND_REPLY, PICK_REPLY, REPLY, WINDOW_REPLY,
 };
 use reference::call::{Answer, Call, Key, Name, Operation};
 use reference::counting::PasswordCount;
 use reference::drive::{Pick, Picked};
 use reference::hooks::{Hooked, Transfer};
 use reference::kernel::Store;
+use reference::lending::LendPlace;
 use reference::numbers::*;
 use reference::royalties::{Bill, Billed};
 use std::collections::BTreeMap;
@@ -120,7 +121,7 @@ fn call_with(
 
 /// Asks the raw store alone, which changes nothing: the reply.
 fn ask_raw<const N: usize>(
-    ask: fn(&RawStore, &[u32], &mut [u32]) -> u32,
+    ask: impl Fn(&RawStore, &[u32], &mut [u32]) -> u32,
     raw: &RawStore,
     request: &[u32],
 ) -> [u32; N] {
@@ -140,6 +141,18 @@ pub fn window_raw(raw: &RawStore, caller: Name, key: Key) -> [u32; WINDOW_REPLY]
 /// Asks the raw store alone for the number of passwords: the code and the number.
 pub fn count_raw(raw: &RawStore, asked: &PasswordCount) -> [u32; COUNT_REPLY] {
     ask_raw(kernel::count, raw, &count_request(asked))
+}
+
+/// Asks the raw store alone what can be lent, which changes neither the list nor the request: the
+/// code and the place.
+pub fn lend_raw(raw: &RawStore, asked: &LendPlace) -> [u32; LEND_REPLY] {
+    let (list, request) = (asked.list.clone(), lend_request(asked));
+    let ask = |raw: &RawStore, numbers: &[u32], reply: &mut [u32]| {
+        kernel::lend(raw, &list, numbers, reply)
+    };
+    let reply = ask_raw(ask, raw, &request);
+    assert!(list == asked.list && request == lend_request(asked), "changed: {asked:?}");
+    reply
 }
 
 /// Makes the pick by a function that takes the buffer, the request and the reply: it gives what is
@@ -250,6 +263,16 @@ impl Pair {
             Err(refusal) => [refusal.number(), 0],
         };
         assert_eq!(count_raw(&self.raw, asked), expected, "{asked:?}");
+        expected
+    }
+
+    /// Asks both what can be lent, and compares; the answer's code and the place.
+    pub fn lend(&self, asked: &LendPlace) -> [u32; LEND_REPLY] {
+        let expected = match asked.ask(&self.store) {
+            Ok(place) => [DONE, place],
+            Err(refusal) => [refusal.number(), 0],
+        };
+        assert_eq!(lend_raw(&self.raw, asked), expected, "{asked:?}");
         expected
     }
 

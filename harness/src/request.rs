@@ -1,11 +1,13 @@
 //! A call as the verified kernel takes it: 22 numbers and the bytes that come with it; and its
-//! reply, 9 numbers, as an answer. The questions for a window and for the number of passwords, a pick
-//! of the loom drive, a read or a write by hook and a bill of royalties have requests of their own.
+//! reply, 9 numbers, as an answer. The questions for a window, for the number of passwords and what
+//! can be lent, a pick of the loom drive, a read or a write by hook and a bill of royalties have
+//! requests of their own.
 
 use reference::call::{Action, Answer, Call, Key, Name, Operation};
 use reference::counting::PasswordCount;
 use reference::drive::{Pick, Picked, Place, Repeat};
 use reference::hooks::Hooked;
+use reference::lending::{LendPlace, Wish};
 use reference::royalties::{Bill, Billed};
 
 /// The numbers of a request, in the order of the kernel's `Request`.
@@ -20,6 +22,10 @@ pub const WINDOW_REPLY: usize = 3;
 pub const COUNT_REQUEST: usize = 5;
 /// The numbers of its reply: the code and the number.
 pub const COUNT_REPLY: usize = 2;
+/// The numbers of a question what can be lent, beside its list: the caller and the wish.
+pub const LEND_REQUEST: usize = 7;
+/// The numbers of its reply: the code and the place.
+pub const LEND_REPLY: usize = 2;
 /// The numbers of a pick: those of the question for a window, the repeat and the place.
 pub const PICK_REQUEST: usize = WINDOW_REQUEST + 5;
 /// The numbers of its reply: the code, the step, the place, and how many bytes were read.
@@ -147,6 +153,13 @@ pub fn window_request(caller: Name, key: Key) -> [u32; WINDOW_REQUEST] {
 pub fn count_request(asked: &PasswordCount) -> [u32; COUNT_REQUEST] {
     let ([volume, serial], [of, number]) = (name(asked.caller), name(asked.object));
     [volume, serial, of, number, asked.right]
+}
+
+/// The numbers of a question what can be lent, beside its list.
+pub fn lend_request(asked: &LendPlace) -> [u32; LEND_REQUEST] {
+    let [volume, serial] = name(asked.caller);
+    let Wish { rights, start, end, sum, last_day } = asked.wish;
+    [volume, serial, rights, start, end, sum, last_day]
 }
 
 /// The numbers of a question for a window, and those that a request has after them.

@@ -18,6 +18,13 @@ pub struct Key {
     pub p2: u32,
 }
 
+impl Key {
+    /// Its numbers, in the order in which they are written: volume, serial, p1 and p2.
+    pub fn numbers(self) -> [u32; 4] {
+        [self.name.volume, self.name.serial, self.p1, self.p2]
+    }
+}
+
 /// One call with everything the host hands over with it.
 #[derive(Clone, Debug, PartialEq, Eq)]
 pub struct Call {

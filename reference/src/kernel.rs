@@ -269,7 +269,7 @@ impl Store {
     }
 
     /// Refusal 3.
-    fn check_caller(&self, caller: Name) -> Result<(), Refusal> {
+    pub(crate) fn check_caller(&self, caller: Name) -> Result<(), Refusal> {
         let runs = self.objects.get(&caller).is_some_and(Object::runs);
         refuse_if(!runs, Refusal::NotRunning)
     }

@@ -44,10 +44,12 @@ pub const COUNT_PASSES: u32 = 18;
 pub const EXPIRED: u32 = 19;
 /// "the new day is before the store's"
 pub const EARLIER_DAY: u32 = 20;
+/// 02, CR 10: "none in the list will do"
+pub const NONE_WILL_DO: u32 = 21;
 
-/// 01's refusals 2 to 16, and of 02 the loom drive's own, 17, that of royalties, 18, and those of
-/// season licences, 19 and 20. Refusal 1 has no case: a store over maps that began fresh is always
-/// well formed.
+/// 01's refusals 2 to 16, and of 02 the loom drive's own, 17, that of royalties, 18, those of
+/// season licences, 19 and 20, and that of the question what can be lent, 21. Refusal 1 has no
+/// case: a store over maps that began fresh is always well formed.
 #[repr(u32)]
 #[derive(Clone, Copy, Debug, PartialEq, Eq, PartialOrd, Ord)]
 pub enum Refusal {
@@ -70,6 +72,7 @@ pub enum Refusal {
     CountPasses = COUNT_PASSES,
     Expired = EXPIRED,
     EarlierDay = EARLIER_DAY,
+    NoneWillDo = NONE_WILL_DO,
 }
 
 impl Refusal {
@@ -133,6 +136,10 @@ pub const LAST_RATE: u32 = 20;
 pub const CREDIT: u32 = 1_000;
 /// "The pick count p is kept .. from 0 to 4,294,967,295"
 pub const MAX_COUNT: u32 = 4_294_967_295;
+/// 02, CR 10: "up to 32 capabilities"
+pub const MAX_ENTRIES: usize = 32;
+/// Numbers of an entry: volume, serial, p1 and p2
+pub const ENTRY_NUMBERS: usize = 4;
 
 /// "Rights add up": the thirteen, and none for a call that presents no capability.
 pub mod right {

@@ -92,7 +92,7 @@ fn answer_numbers(operation: &Operation, answer: &Answer) -> Vec<u32> {
     match operation {
         Operation::MakeObj { .. }
         | Operation::On(_, Action::DeriveCap { .. } | Action::RenameObj { .. }) => {
-            numbers.extend(key_numbers(answer.capability));
+            numbers.extend(answer.capability.numbers());
         }
         Operation::On(_, Action::Read { .. }) => numbers.extend(bytes),
         Operation::On(_, Action::CapInfo) => {
@@ -105,10 +105,6 @@ fn answer_numbers(operation: &Operation, answer: &Answer) -> Vec<u32> {
         _ => {}
     }
     numbers
-}
-
-fn key_numbers(key: Key) -> [u32; 4] {
-    [key.name.volume, key.name.serial, key.p1, key.p2]
 }
 
 /// The numbers of the `T` line.
@@ -236,7 +232,7 @@ pub fn call_numbers(call: &Call) -> Vec<u32> {
             numbers.extend([drawn.name.serial, drawn.p1, drawn.p2]);
         }
         Operation::On(key, action) => {
-            numbers.extend(key_numbers(*key));
+            numbers.extend(key.numbers());
             numbers.extend(action_numbers(action));
         }
         Operation::SetDay { day } => numbers.push(*day),

@@ -24,7 +24,7 @@ impl Generator {
     }
 
     /// The name of a wanted object; now and then of none, or out of range.
-    fn name_of(&mut self, store: &Store, wanted: impl Fn(&Object) -> bool) -> Name {
+    pub(crate) fn name_of(&mut self, store: &Store, wanted: impl Fn(&Object) -> bool) -> Name {
         let objects = store.objects.iter().filter(|(_, object)| wanted(object));
         let names: Vec<Name> = objects.map(|(name, _)| *name).collect();
         let name = self.random.pick(&names).unwrap_or_else(|| self.drawn_name());

@@ -149,7 +149,7 @@ impl Generator {
         later.min(MAX_DAY)
     }
 
-    fn day_out_of_range(&mut self) -> u32 {
+    pub(crate) fn day_out_of_range(&mut self) -> u32 {
         self.random
             .pick(&[MAX_DAY + 1, MAX_DAY + 2, 2 * MAX_DAY, TOP, MAX_WORD])
             .unwrap_or(MAX_WORD)

@@ -2,9 +2,10 @@
 //!
 //! `generate`, with `profiles` and `random`, makes random calls and scripts (`make-script`);
 //! `conditions`, `scenes` and `coverage` count what they meet (`coverage`). `picks` makes picks of
-//! the loom drive, `hooks` reads and writes by hook, `bills` those of royalties, and `counts`
-//! questions for the number of passwords; `met` counts what those meet. `edges` is 01's edges and 02's as scripts; `examples` prints answered scripts as
-//! definitions (`script-table`).
+//! the loom drive, `hooks` reads and writes by hook, `bills` those of royalties, `counts` questions
+//! for the number of passwords, and `lends` questions what can be lent; `met` counts what those
+//! meet. `edges` is 01's edges and 02's as scripts; `examples` prints answered scripts as
+//! definitions (`script-table`), and `table` reads examples that stand among definitions.
 //!
 //! `raw` is a store in slices (`layout` has the offsets, `encode` lays a store out), `oracle` and
 //! `plain` check that slices are well formed, `damage` and `crafted` spoil them, and `samples`
@@ -22,6 +23,7 @@ pub mod examples;
 pub mod generate;
 pub mod hooks;
 pub mod layout;
+pub mod lends;
 pub mod met;
 pub mod oracle;
 pub mod picks;
@@ -31,3 +33,4 @@ pub mod random;
 pub mod raw;
 pub mod samples;
 pub mod scenes;
+pub mod table;

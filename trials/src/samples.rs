@@ -1,5 +1,5 @@
-//! Random runs of the profiles; and stores to try the checkers on: those met in such runs, the same
-//! damaged, and full ones of given shapes.
+//! Random runs of the profiles; and stores to try the checkers and the questions on: those met in
+//! such runs, the same damaged, full ones of given shapes, and what a script leaves.
 
 use crate::damage::{damage, Kind};
 use crate::encode::{encode, shuffled};
@@ -8,9 +8,10 @@ use crate::oracle::well_formed;
 use crate::profiles::{Profile, PROFILES};
 use crate::random::Random;
 use crate::raw::RawStore;
-use reference::call::Name;
-use reference::kernel::{Capability, Object, Store};
-use reference::numbers::{MAX_CAPS, MAX_DAY, MAX_RIGHTS};
+use reference::call::{Key, Name};
+use reference::kernel::{Capability, Object, Place, Store};
+use reference::numbers::{DONE, MAX_CAPS, MAX_DAY, MAX_RIGHTS};
+use reference::script::{answer_line, read_numbers, start};
 use std::collections::BTreeSet;
 
 /// A random run of a profile, with something done after each call.
@@ -75,6 +76,16 @@ pub fn damaged_stores_of_runs(
     });
 }
 
+/// The store that a script leaves, line one first; every call in it is done.
+pub fn after_script(lines: &[&str]) -> Store {
+    let mut lines = lines.iter().map(|line| read_numbers(line.as_bytes()));
+    let mut store = lines.next().flatten().and_then(start).expect("a first line");
+    for line in lines {
+        assert_eq!(answer_line(&mut store, line.as_deref())[0], DONE, "{line:?}");
+    }
+    store
+}
+
 /// The shape of an object's tree: which of the earlier capabilities a new one derives from.
 #[derive(Clone, Copy, Debug, PartialEq, Eq)]
 pub enum Shape {
@@ -119,6 +130,14 @@ pub fn shaped(objects: u32, size: usize, tree: u32, shape: Shape, random: &mut R
         }
     }
     store
+}
+
+/// All capabilities as they are presented without a lockword, each after those on its climb.
+pub fn by_depth(store: &Store) -> Vec<Key> {
+    let key = |(name, p1): Place| Key { name, p1, p2: store.capabilities[&(name, p1)].p2 };
+    let mut places: Vec<Place> = store.capabilities.keys().copied().collect();
+    places.sort_by_cached_key(|place| store.climb(*place).len());
+    places.into_iter().map(key).collect()
 }
 
 /// So many random numbers, no two the same, in random order.

@@ -2,8 +2,6 @@
 //! the sum by a second writing, what a bill leaves, that each pattern's bills add up, and every
 //! scene met. And the examples of the verified definitions.
 
-mod table;
-
 use reference::call::{Key, Name};
 use reference::claims;
 use reference::kernel::Store;
@@ -14,6 +12,7 @@ use trials::conditions::{holding, leave_fee};
 use trials::met::Met;
 use trials::profiles::PROFILES;
 use trials::samples::calls_of_run;
+use trials::table;
 
 /// The charge, step by step of the tariff: the picks above each count, up to the next, at a rate.
 fn charge(count: u64) -> u64 {

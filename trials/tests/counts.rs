@@ -3,17 +3,15 @@
 //! and every right asked.
 //! And the examples of the verified definitions.
 
-mod table;
-
 use reference::call::Name;
 use reference::counting::PasswordCount;
 use reference::kernel::Store;
 use reference::numbers::*;
-use reference::script::{answer_line, read_numbers, start};
 use std::collections::BTreeMap;
 use trials::counts::{Tried, SCENES};
 use trials::met::Met;
-use trials::samples::calls_of_runs;
+use trials::samples::{after_script, calls_of_runs};
+use trials::table;
 
 /// The answer's code and its number.
 fn expected(store: &Store, asked: &PasswordCount) -> (u32, u32) {
@@ -75,20 +73,11 @@ const LINES: [&str; 12] = [
     "17 4",
 ];
 
-fn hall() -> Store {
-    let mut lines = LINES.map(|line| read_numbers(line.as_bytes())).into_iter();
-    let mut store = lines.next().flatten().and_then(start).expect("a first line");
-    for line in lines {
-        assert_eq!(answer_line(&mut store, line.as_deref())[0], DONE, "{line:?}");
-    }
-    store
-}
-
 /// The reference gives for each example what the definition does: the caller, the object and the
 /// right; the code and the number.
 #[test]
 fn edges() {
-    let (store, edges) = (hall(), table::edges(EDGES));
+    let (store, edges) = (after_script(&LINES), table::edges(EDGES));
     assert_eq!(edges.len(), 24);
     for [volume, serial, of, number, right, code, count] in edges {
         let caller = Name { volume, serial };

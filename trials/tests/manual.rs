@@ -72,7 +72,7 @@ fn rights_answers_and_limits() {
     for row in rows("### Answers") {
         said.extend(number(row[0]).map(|n| (row[1], n)));
     }
-    assert_eq!(said.len(), 21);
+    assert_eq!(said.len(), 22);
     for row in rows("### Limits").iter().skip(2) {
         let numbers = row[1].split(", ").map(|n| number(n).expect("a number"));
         said.extend(row[0].split(", ").zip(numbers));

@@ -30,7 +30,7 @@ fn constants(text: &str) -> BTreeMap<&str, u64> {
 fn numbers_are_the_same() {
     let (outer, rights) = REFERENCE.split_once("pub mod right").expect("the rights");
     let mut verified = constants(CODES);
-    assert_eq!(verified.len(), 21);
+    assert_eq!(verified.len(), 22);
     verified.extend(constants(LIMITS));
     for (product, count) in [(DRIVE, 3), (ROYALTIES, 7)] {
         let limits = constants(product);

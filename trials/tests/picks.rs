@@ -2,8 +2,6 @@
 //! and the step by a second writing, what a pick leaves, and every scene met. And the examples of
 //! the verified drive's definitions.
 
-mod table;
-
 use reference::call::{Action, Call, Key, Name, Operation};
 use reference::claims;
 use reference::drive::{Pick, Picked, Place, Repeat};
@@ -13,6 +11,7 @@ use trials::conditions::{holding, leave_fee, Condition};
 use trials::met::Met;
 use trials::picks::SCENES;
 use trials::samples::calls_of_runs;
+use trials::table;
 
 /// 02's whole part of i × C / N, divided.
 fn whole_part(pick: &Pick, i: u32) -> u64 {

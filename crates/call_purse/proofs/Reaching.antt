@@ -20,7 +20,7 @@ use Rattle.layout.proofs.Shown.{cash-here, parent-is, money-here, cap-lives, ca
 use Rattle.call_steps.specs.Run.{Process, Held}
 use Rattle.call_steps.proofs.Process.{is-process}
 use Rattle.call_purse.specs.declared.way.Way.{Way}
-use Rattle.call_purse.specs.Climb.{climbOf, stops, climbStops}
+use Rattle.call_purse.specs.Climb.{climbOf, Climbable, stops, climbStops}
 
 climbs-chain : {p : ℕ → ℕ} {k : ℕ} {xs : List ℕ} → Climbs p k xs → ((j : ℕ) → OneOf j xs → (1 ≤ j) × (j ≤ 512))
     → Chain 512 p k xs
@@ -67,6 +67,9 @@ module _ (b l w : List ℕ) (g : Plain b l w) (k : ℕ) (held : Held l k) where
 
   pub climb-chain : Chain 512 (parentOf l) k (climbOf l k)
   climb-chain = subst (Chain 512 (parentOf l) k) path-is (climbs-chain ends slots)
+
+  pub climbable : Climbable l w k
+  climbable = record { links = g .sized .links; words = g .sized .words; ends = climb-chain }
 
   climb-lives : (j : ℕ) → OneOf j (climbOf l k) → ownerOf l j ≢ 0
   climb-lives j o = alive j (subst (OneOf j) (sym path-is) o)

@@ -21,7 +21,7 @@ use Rattle.call_steps.specs.Run.{Process, Held}
 use Rattle.call_purse.specs.declared.way.Way.the-variants.{Out}
 use Rattle.call_purse.specs.Climb.{stops, climbStops}
 use Rattle.call_purse.specs.Calls.{Payable, Withdrawable}
-use Rattle.call_purse.proofs.Reaching.{cash-is, climb-chain, stops-is}
+use Rattle.call_purse.proofs.Reaching.{cash-is, climbable, stops-is}
 
 -- the master's moneyword and a process's cash
 total-part : (s : State) → Valid s → (me k : ℕ) → 1 ≤ me → me ≤ 64 → Lives (s .cap) k
@@ -38,7 +38,7 @@ total-part s h me k low high alive =
 module _ (b l w : List ℕ) (g : Plain b l w) (me k : ℕ) (caller : Process b l me) (held : Held l k) where
   pub payable : Payable l w me k
   payable = record {
-    climb = record { links = g .sized .links; words = g .sized .words; ends = climb-chain b l w g k held };
+    climb = climbable b l w g k held;
     low = caller .low;
     high = caller .high;
   }

@@ -14,7 +14,7 @@ use layout::PARENT;
 use values::moneyword::Moneyword;
 
 // Some moneyword from k up to its master stops the sum. Each call takes two steps of the climb.
-pub(crate) fn climb_stops(way: Way, links: &[u16], words: &[u32], k: usize, sum: u32) -> bool
+pub fn climb_stops(way: Way, links: &[u16], words: &[u32], k: usize, sum: u32) -> bool
     requires { ⌜ Climbable (now links) (now words) k ⌝ }
     ensures { λ r. ⌜ r ≡ climbStops way (now (links .entry)) (now (words .entry)) k sum ⌝ }
 {

@@ -10,8 +10,8 @@ ghost use Rattle.layout.specs.Rows.{cashOf};
 ghost use Rattle.call_steps.specs.Replies.{Replies};
 ghost use Rattle.call_purse.specs.Calls.{Payable, Withdrawable, withdrawRun, depositRun};
 
-mod climb;
-mod way;
+pub mod climb;
+pub mod way;
 
 use call_steps::request::Reply;
 use climb::climb_moves;

@@ -136,7 +136,7 @@ presented-held b l w me x h =
 pub found-held : (b l w : List ℕ) (me : ℕ) (x : Capability) (k : ℕ) → k ≡ presented (view b l w) me x → k ≢ 0 → Held l k
 found-held b l w me x k e nz = subst (Held l) (sym e) (presented-held b l w me x (λ z. nz (e ∙ z)))
 
--- ---- the lockword of a process, the rights of a capability, and whether it is expired
+-- ---- the lockword of a process, the rights and the last day of a capability, and whether it is expired
 
 pub lock-is : (b l w : List ℕ) (me : ℕ) → Process b l me
     → view b l w .lock me
@@ -151,7 +151,10 @@ lock-is b l w me P =
 pub rights-is : (b l w : List ℕ) (k : ℕ) → Held l k → view b l w .cap k .rights ≡ getD l (Layout.RIGHTS + k) 0
 rights-is b l w k H = rw (cap-here b l w k (H .live), field-in 512 Layout.RIGHTS l k (H .low) (H .high))
 
+pub last-day-is : (b l w : List ℕ) (k : ℕ) → Held l k → view b l w .cap k .lastDay ≡ getD l (Layout.«LAST_DAY» + k) 0
+last-day-is b l w k H = rw (cap-here b l w k (H .live), field-in 512 Layout.«LAST_DAY» l k (H .low) (H .high))
+
 pub expired-is : (b l w : List ℕ) (k : ℕ) → Held l k
     → expired (view b l w) k ≡ ltb (getD l (Layout.«LAST_DAY» + k) 0) (getD l Layout.DAY 0)
 unfolding expired view
-expired-is b l w k H = rw (cap-here b l w k (H .live), field-in 512 Layout.«LAST_DAY» l k (H .low) (H .high))
+expired-is b l w k H = ap (λ d. ltb d (getD l Layout.DAY 0)) (last-day-is b l w k H)

@@ -1,5 +1,6 @@
 -- What all calls share.
 pub mod Request
+pub mod Numbers
 pub mod Run
 -- the steps of every call
 pub mod Refuses

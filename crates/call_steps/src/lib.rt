@@ -1,6 +1,7 @@
 // What all calls share: the request and the reply, and the steps from a request to the call's own part.
 pub mod copy;
 mod groups;
+pub mod numbers;
 pub mod objects;
 mod owned;
 pub mod pay;

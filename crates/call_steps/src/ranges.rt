@@ -87,7 +87,7 @@ fn write_fits(range: Window, text: usize) -> bool
 }
 
 // derive_cap's.
-fn derive_fits(rights: u32, range: Window, last_day: u32) -> bool
+pub fn derive_fits(rights: u32, range: Window, last_day: u32) -> bool
     ensures { λ r. ⌜ r ≡ (leb rights Limit.rights && ordered (windowOf range) && leb «last_day» Limit.day) ⌝ }
 {
     if rights > MAX_RIGHTS {

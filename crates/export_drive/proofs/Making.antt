@@ -9,7 +9,8 @@ use Rattle.product_drive.specs.declared.repeat.Repeat.{Repeat}
 use Rattle.product_drive.specs.declared.repeat.Place.{Place}
 use Rattle.product_drive.specs.declared.picked.Picked.{Picked}
 use Rattle.product_drive.specs.Picks.{Picks}
-use Rattle.export_numbers.specs.Numbers.{nameAt, capabilityAt, Fitting}
+use Rattle.call_steps.specs.Numbers.{nameAt, capabilityAt}
+use Rattle.export_numbers.specs.Numbers.{Fitting}
 use Rattle.export_numbers.specs.Drive.{requestLength, replyLength, repeatOf, placeOf, numbersOf}
 use Rattle.export_numbers.proofs.Making.{made-by, answered-by}
 use Rattle.export_drive.specs.Exported.{Exported}

@@ -5,7 +5,7 @@ use mathlib.Core.List.{List}
 use Rattle.rules.specs.Code as Code
 use Rattle.kernel_step.specs.Slices.{Slices}
 use Rattle.product_drive.specs.Picks.{Picks}
-use Rattle.export_numbers.specs.Numbers.{nameAt, capabilityAt}
+use Rattle.call_steps.specs.Numbers.{nameAt, capabilityAt}
 use Rattle.export_numbers.specs.Drive.{requestLength, replyLength, repeatOf, placeOf, numbersOf}
 use Rattle.export_numbers.specs.Crossing.{Crosses, Answered}
 

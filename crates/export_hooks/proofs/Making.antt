@@ -9,7 +9,8 @@ use Rattle.call_steps.specs.declared.request.Request.{Request}
 use Rattle.call_steps.specs.declared.request.Reply.{Reply}
 use Rattle.kernel_step.specs.Slices.{Slices}
 use Rattle.product_hooks.specs.Hooked.{Hooked}
-use Rattle.export_numbers.specs.Numbers.{nameAt, capabilityAt, windowAt, Fitting}
+use Rattle.call_steps.specs.Numbers.{nameAt, capabilityAt, windowAt}
+use Rattle.export_numbers.specs.Numbers.{Fitting}
 use Rattle.export_numbers.specs.Call.{replyLength, numbersOf}
 use Rattle.export_numbers.proofs.Making.{made-by, answered-by}
 use Rattle.export_hooks.specs.Exported.{requestLength, Exported}

@@ -7,7 +7,7 @@ use Rattle.call_steps.specs.declared.request.Capability.{Capability}
 use Rattle.call_steps.specs.declared.request.Request.{Request}
 use Rattle.kernel_step.specs.Slices.{Slices}
 use Rattle.product_hooks.specs.Hooked.{Hooked}
-use Rattle.export_numbers.specs.Numbers.{nameAt, capabilityAt, windowAt}
+use Rattle.call_steps.specs.Numbers.{nameAt, capabilityAt, windowAt}
 use Rattle.export_numbers.specs.Call.{replyLength, numbersOf}
 use Rattle.export_numbers.specs.Crossing.{Crosses, Answered, Unanswered}
 

@@ -3,13 +3,13 @@ ghost use mathlib.Core.List.{[]};
 ghost use Rattle.call_steps.specs.Request.{readRequest, writeRequest};
 ghost use Rattle.kernel_step.specs.Slices.{slices};
 ghost use Rattle.export_hooks.specs.Exported.{Exported};
+use call_steps::numbers::capability_at;
+use call_steps::numbers::name_at;
+use call_steps::numbers::window_at;
 use export_numbers::call::REPLY;
 use export_numbers::call::put_reply;
-use export_numbers::numbers::capability_at;
 use export_numbers::numbers::fits;
-use export_numbers::numbers::name_at;
 use export_numbers::numbers::unfit;
-use export_numbers::numbers::window_at;
 use product_hooks::read_by_hook;
 use product_hooks::write_by_hook;
 

@@ -4,7 +4,7 @@ use mathlib.Core.List.{List, [], _∷_}
 use lib.ListN.{getD}
 use Rattle.call_steps.specs.declared.request.Request.{Request}
 use Rattle.call_steps.specs.declared.request.Reply.{Reply}
-use Rattle.export_numbers.specs.Numbers.{nameAt, capabilityAt, windowAt}
+use Rattle.call_steps.specs.Numbers.{nameAt, capabilityAt, windowAt}
 
 -- how many numbers a request and a reply have
 abbrev pub requestLength : ℕ

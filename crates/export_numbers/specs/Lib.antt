@@ -4,5 +4,6 @@ pub mod Crossing
 pub mod Call
 pub mod Window
 pub mod Count
+pub mod Lend
 pub mod Drive
 pub mod Royalties

@@ -2,9 +2,9 @@
 ghost use mathlib.Core.Path.{_≡_};
 ghost use lib.ListN.{length};
 ghost use Rattle.export_numbers.specs.Call.{requestLength, replyLength, requestOf, numbersOf};
-use crate::numbers::capability_at;
-use crate::numbers::name_at;
-use crate::numbers::window_at;
+use call_steps::numbers::capability_at;
+use call_steps::numbers::name_at;
+use call_steps::numbers::window_at;
 use call_steps::request::Reply;
 use call_steps::request::Request;
 

@@ -2,6 +2,7 @@
 pub mod call;
 pub mod count;
 pub mod drive;
+pub mod lend;
 pub mod numbers;
 pub mod royalties;
 pub mod window;

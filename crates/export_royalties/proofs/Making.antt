@@ -7,7 +7,8 @@ use Rattle.call_steps.specs.declared.request.Capability.{Capability}
 use Rattle.kernel_step.specs.Slices.{Slices}
 use Rattle.product_royalties.specs.declared.billed.Billed.{Billed}
 use Rattle.product_royalties.specs.Bills.{Bills}
-use Rattle.export_numbers.specs.Numbers.{nameAt, capabilityAt, Fitting}
+use Rattle.call_steps.specs.Numbers.{nameAt, capabilityAt}
+use Rattle.export_numbers.specs.Numbers.{Fitting}
 use Rattle.export_numbers.specs.Royalties.{requestLength, replyLength, countOf, picksOf, numbersOf}
 use Rattle.export_numbers.proofs.Making.{made-by, answered-by}
 use Rattle.export_royalties.specs.Exported.{Exported}

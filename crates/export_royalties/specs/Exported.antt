@@ -3,7 +3,7 @@ use Prim.Native.Nat.{ℕ}
 use mathlib.Core.List.{List}
 use Rattle.kernel_step.specs.Slices.{Slices}
 use Rattle.product_royalties.specs.Bills.{Bills}
-use Rattle.export_numbers.specs.Numbers.{nameAt, capabilityAt}
+use Rattle.call_steps.specs.Numbers.{nameAt, capabilityAt}
 use Rattle.export_numbers.specs.Royalties.{requestLength, replyLength, countOf, picksOf, numbersOf}
 use Rattle.export_numbers.specs.Crossing.{Crosses, Answered, Unanswered}
 

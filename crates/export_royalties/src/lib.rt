@@ -2,9 +2,9 @@
 ghost use mathlib.Core.List.{[]};
 ghost use Rattle.kernel_step.specs.Slices.{slices};
 ghost use Rattle.export_royalties.specs.Exported.{Exported};
-use export_numbers::numbers::capability_at;
+use call_steps::numbers::capability_at;
+use call_steps::numbers::name_at;
 use export_numbers::numbers::fits;
-use export_numbers::numbers::name_at;
 use export_numbers::numbers::unfit;
 use export_numbers::royalties::REPLY;
 use export_numbers::royalties::REQUEST;

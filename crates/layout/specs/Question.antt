@@ -9,10 +9,14 @@ use Rattle.rules.specs.Store.{State}
 use Rattle.layout.specs.View.{view}
 use Rattle.layout.specs.WellFormed.{WellFormed}
 
--- r is answered, with this code; `refused` is a refusal's answer
-pub record Asked {A : Type 0} (b l w : List ℕ) (refused : ℕ → A) (rules : State → A) (code : ℕ) (r : A) : Type 0 where
+-- an answer with this code; `refused` says that it is 1, `rules` that it is the rules'
+pub record AskedOf (b l w : List ℕ) (refused : Type 0) (rules : State → Type 0) (code : ℕ) : Type 0 where
   -- "1 the store is not well formed"
-  pub unsound : (WellFormed b l w → ⊥) → r ≡ refused Code.illFormed
-  pub asks : WellFormed b l w → r ≡ rules (view b l w)
+  pub unsound : (WellFormed b l w → ⊥) → refused
+  pub asks : WellFormed b l w → rules (view b l w)
   -- any other answer says that it is
   pub sound : code ≢ Code.illFormed → WellFormed b l w
+
+-- r is answered where the rules' answer is a function of the store; `refused` gives a refusal's answer
+abbrev pub Asked : {A : Type 0} → List ℕ → List ℕ → List ℕ → (ℕ → A) → (State → A) → ℕ → A → Type 0
+Asked b l w refused rules code r = AskedOf b l w (r ≡ refused Code.illFormed) (λ s. r ≡ rules s) code

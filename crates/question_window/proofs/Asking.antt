@@ -13,7 +13,7 @@ use Rattle.rules.specs.Call as Call
 use Rattle.rules.specs.Password.{presented}
 use Rattle.rules.specs.Refusals.{_when_, first, nameFits, running, showing}
 use Rattle.rules.specs.Questions as Questions
-use Rattle.rules.specs.Questions.{windowSlot, windowRefuses, unwindowed, windowedBy, windowAsked}
+use Rattle.rules.specs.Questions.{shownSlot, windowRefuses, unwindowed, windowedBy, windowAsked}
 use Rattle.call_steps.proofs.Admitting.{showing-none}
 use Rattle.question_window.specs.declared.Windowed.{Windowed}
 use Rattle.question_window.specs.Asks.{windowedOf}
@@ -39,7 +39,7 @@ module _ (s : State) (caller : Store.Name) (x : Call.Capability) where
     -- n is what 5, 19 and 6 come to
     module _ (runs : running s me ≡ true) (n : ℕ) (shows : n ≡ first (showing s (presented s me x) READ)) where
       refuses-late : first (windowRefuses s caller x) ≡ n
-      unfolding windowRefuses windowSlot first _when_
+      unfolding windowRefuses shownSlot first _when_
       refuses-late = rw (fit, ← who, runs) (sym shows)
 
       pub asked-late : n ≢ Code.done → windowAsked s caller x ≡ unwindowed n
@@ -47,7 +47,7 @@ module _ (s : State) (caller : Store.Name) (x : Call.Capability) where
 
       module _ (none : n ≡ Code.done) (k : ℕ) (slot : k ≡ presented s me x) where
         pub asked-done : windowAsked s caller x ≡ record { code = Code.done; window = s .cap k .window }
-        unfolding windowAsked windowedBy windowSlot
+        unfolding windowAsked windowedBy shownSlot
         asked-done = rw (refuses-late ∙ none, ← who, ← slot)
 
         -- 5 is not met

@@ -19,7 +19,7 @@ use Rattle.rules.specs.Update.{withHouse, withCash}
 use Rattle.rules.specs.Changes.{spend, toHouse}
 use Rattle.rules.specs.Calls.{liesIn, transferRefuses, refuses}
 use Rattle.rules.specs.Rule.{paid, late, rule}
-use Rattle.rules.specs.Questions.{Windowed, windowSlot, windowRefuses, unwindowed, windowedBy, windowAsked}
+use Rattle.rules.specs.Questions.{Windowed, shownSlot, windowRefuses, unwindowed, windowedBy, windowAsked}
 use Rattle.rules.specs.Theorems.{readRefuses}
 use Rattle.rules.proofs.Tests.{by-bool, pick-by}
 use Rattle.rules.proofs.Ready.{slotOf, numbers, none-met, first-in, first-append, early-low, early-fits}
@@ -38,7 +38,7 @@ module _ (s : State) (caller : Name) (x : Capability) where
       (λ e. sym (eqb-true (first asks) Code.done e)) (λ _. refl)
 
   pub asked-window : windowAsked s caller x .code ≡ Code.done
-      → windowAsked s caller x .window ≡ s .cap (windowSlot s caller x) .window
+      → windowAsked s caller x .window ≡ s .cap (shownSlot s caller x) .window
   unfolding windowAsked windowedBy
   asked-window z = rw (sym asked-code ∙ z, windowedBy)
 
@@ -54,7 +54,7 @@ module _ (s : State) (caller : Name) (x : Capability) where
 
 module _ (s : State) (c : Call) (isRead : op (c .number) ≡ read) where
   abbrev k : ℕ
-  k = windowSlot s (c .caller) (c .presented)
+  k = shownSlot s (c .caller) (c .presented)
 
   -- 7, and 5, 19, 6 and 7
   abbrev seven : List Refusal
@@ -65,7 +65,7 @@ module _ (s : State) (c : Call) (isRead : op (c .number) ≡ read) where
 
   -- what the fee leaves has the same capabilities
   late-is : late (paid s c) c (slotOf s c) ≡ first lates
-  unfolding late presenting presents asked refuses paid toHouse spend withCash withHouse caller objectNamed presented windowSlot
+  unfolding late presenting presents asked refuses paid toHouse spend withCash withHouse caller objectNamed presented shownSlot
       capLives showing expired transferRefuses
   late-is = rw isRead refl
 

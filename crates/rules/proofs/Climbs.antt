@@ -52,6 +52,12 @@ any-none t [] h j o = absurd o
 any-none t (x ∷ xs) h j (inl e) = rw e (any-cons t x xs (t x) refl h .0)
 any-none t (x ∷ xs) h j (inr o) = any-none t xs (any-cons t x xs (t x) refl h .1) j o
 
+-- and where each one fails, no slot passes
+pub none-any : (t : ℕ → Bool) (xs : List ℕ) → ((j : ℕ) → OneOf j xs → t j ≡ false) → any t xs ≡ false
+unfolding any
+none-any t [] h = refl
+none-any t (x ∷ xs) h = rw (h x (inl refl), any) (none-any t xs (λ j o. h j (inr o)))
+
 -- lists under a map that does not join two
 pub one-map : (g : ℕ → ℕ) (k : ℕ) (xs : List ℕ) → OneOf k xs → OneOf (g k) (map g xs)
 one-map g k [] o = absurd o

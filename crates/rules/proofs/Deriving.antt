@@ -39,12 +39,12 @@ not-taken s c me k C e j h p q =
     (sym (both-true (a j) (b j) (eq-eqb _ _ p) (eq-eqb _ _ q)) ∙ some-none 512 (λ i. a i && b i) e j (w .some) (w .low))
 
 -- the rights in both sets lie in the first
-both-in : (p r : ℕ) → bitAnd (both p r) p ≡ both p r
+pub both-in : (p r : ℕ) → bitAnd (both p r) p ≡ both p r
 unfolding both
 both-in p r = and-comm (bitAnd p r) p ∙ sym (and-assoc p p r) ∙ ap (λ z. bitAnd z r) (and-self p)
 
 -- a range moved into a window lies in it
-moved-in : (v w : Window) → w .start ≤ w .end → LiesIn (moved v w) w
+pub moved-in : (v w : Window) → w .start ≤ w .end → LiesIn (moved v w) w
 unfolding moved nearest
 moved-in v w h = record { start = omega arith; end = omega arith }
 

@@ -42,11 +42,13 @@ pub mod Choices
 pub mod Runs
 pub mod Awake
 pub mod Asking
+pub mod Lending
 -- passwords that open
 pub mod Below
 pub mod Unlocking
 pub mod Counting
 pub mod Theorems
+pub mod Played
 -- which free slots are taken is not seen: slots one to one, two states that differ in their slots alone, the calls on them
 pub mod Carried
 pub mod Onto

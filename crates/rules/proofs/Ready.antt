@@ -72,7 +72,7 @@ unmet-append [] b h = (tt, h)
 unmet-append (r ∷ a) b h = let g = unmet-append a b (h .1) in ((h .0, g .0), g .1)
 
 -- of two lists one after the other, the first that is met
-first-front : (a b : List Refusal) → first a ≢ 0 → first (a ++ b) ≡ first a
+pub first-front : (a b : List Refusal) → first a ≢ 0 → first (a ++ b) ≡ first a
 unfolding first
 first-front [] b h = absurd (h refl)
 first-front (r ∷ a) b h = by-bool (r .met)
@@ -96,7 +96,7 @@ module _ (s : State) (c : Call) where
       ∷ Code.cannotPay when ltb (s .cash (caller s c)) (feeOf (c .number))
       ∷ []
 
-  early-none : early s c ≡ 0
+  pub early-none : early s c ≡ 0
       → (inRange c ≡ true) × (running s (caller s c) ≡ true) × (feeOf (c .number) ≤ s .cash (caller s c))
   unfolding early _when_ numbers
   early-none e =

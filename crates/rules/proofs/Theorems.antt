@@ -4,6 +4,7 @@ use mathlib.Core.List.{_∷_}
 use Rattle.rules.specs.Demand.{Now, start, run, Legal, Demand3}
 use Rattle.rules.specs.Theorems.{FreshValid, ValidKept, MoneyKept, RefusedLeaves, AnswerFixed, ChoiceExists}
 use Rattle.rules.specs.Theorems.{LastFree, RunExists, MailWakes, ReadRefuses, ReadInside, PasswordsCaps, AbsentNone}
+use Rattle.rules.specs.Theorems.{LendDecided, LendFixed, LentDerives, DerivedLends}
 use Rattle.rules.proofs.Answers.{refused-rule, answer-same}
 use Rattle.rules.proofs.Steps.{keep-step}
 use Rattle.rules.proofs.Fresh.{valid-fresh}
@@ -12,6 +13,7 @@ use Rattle.rules.proofs.Choices.{choose, last-open}
 use Rattle.rules.proofs.Awake.{run-awake, awake-fresh}
 use Rattle.rules.proofs.Asking.{read-refused, read-inside}
 use Rattle.rules.proofs.Counting.{opening-holding, none-held}
+use Rattle.rules.proofs.Lending.{lends-lendable, lendable-lends, lend-same, lent-by-derive, lends-by-derive}
 use Rattle.rules.proofs.Runs.{valid-step, good-start, good-run, legal-front, ended-next, run-of}
 
 pub fresh-valid : FreshValid
@@ -65,6 +67,23 @@ passwords-caps s me n right v = opening-holding s me n right (v .formed)
 pub absent-none : AbsentNone
 unfolding AbsentNone
 absent-none s me n right v z = opening-holding s me n right (v .formed) ∙ none-held s me n right (v .formed) z
+
+pub lend-decided : LendDecided
+unfolding LendDecided
+lend-decided s who x e v a b f =
+    (λ g. (g .shows, lends-lendable s v who x e g), λ g. lendable-lends s v who x e a b f (g .0) (g .1))
+
+pub lend-fixed : LendFixed
+unfolding LendFixed
+lend-fixed = lend-same
+
+pub lent-derives : LentDerives
+unfolding LentDerives
+lent-derives s c h x v g is = lent-by-derive s c x is h v g
+
+pub derived-lends : DerivedLends
+unfolding DerivedLends
+derived-lends s c h x is = lends-by-derive s c x is h
 
 -- the claims follow from the invariant at the end of the list, what a done delete ended from the invariant before it
 pub demand-3 : Demand3

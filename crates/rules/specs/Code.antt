@@ -84,3 +84,7 @@ expired = 19
 -- "the new day is before the store's"
 abbrev pub earlierDay : ℕ
 earlierDay = 20
+
+-- 02, CR 10: "none in the list will do"
+abbrev pub noneWillDo : ℕ
+noneWillDo = 21

@@ -76,6 +76,14 @@ day = 65535
 abbrev pub defaultLastDay : ℕ
 defaultLastDay = day
 
+-- 02, CR 10: "gives up to 32 capabilities"
+abbrev pub entries : ℕ
+entries = 32
+
+-- a capability in such a list is four numbers: volume, serial, p1, p2
+abbrev pub entry : ℕ
+entry = 4
+
 -- a byte, of write and of send, as a number of a line
 abbrev pub byte : ℕ
 byte = 255

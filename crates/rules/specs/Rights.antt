@@ -94,12 +94,15 @@ op number = getD
     ∷ send ∷ receive ∷ wait ∷ revive ∷ [])
     number unknown
 
--- numbers by name, of the calls that a product above the store makes by itself
+-- numbers by name, of the calls that a product above the store makes by itself, and of the one that 02's CR 10 speaks of
 abbrev pub readNumber : ℕ
 readNumber = 2
 
 abbrev pub writeNumber : ℕ
 writeNumber = 3
+
+abbrev pub deriveNumber : ℕ
+deriveNumber = 5
 
 abbrev pub withdrawNumber : ℕ
 withdrawNumber = 8

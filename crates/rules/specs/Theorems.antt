@@ -1,21 +1,22 @@
 -- What is proved about the rules besides demand 3, each statement by itself; proofs/Theorems.antt has the proofs.
 use Prim.Native.Nat.{ℕ, _≤_, _<_}
 use mathlib.Core.Path.{_≡_}
-use mathlib.Core.Logic.{_≢_}
-use mathlib.Core.Bool.{true, false, not, _&&_}
+use mathlib.Core.Logic.{_≢_, _↔_}
+use mathlib.Core.Bool.{Bool, true, false, not, _&&_}
 use mathlib.Core.List.{List, [], _∷_, _++_, map}
+use lib.Dec.{leb, ltb}
 use Rattle.rules.specs.Code as Code
 use Rattle.rules.specs.Limit as Limit
-use Rattle.rules.specs.Slots.{countOver}
-use Rattle.rules.specs.Store.{Name, Password, State, sameName, capLives, objectNamed, moneyIn, fresh}
+use Rattle.rules.specs.Slots.{countOver, any}
+use Rattle.rules.specs.Store.{Name, Password, State, sameName, path, descends, capLives, objectNamed, moneyIn, fresh}
 use Rattle.rules.specs.Valid.{Valid}
-use Rattle.rules.specs.Call.{Call, Outcome, Choice, code}
-use Rattle.rules.specs.Rights.{has, op, read, feeOf, dayNumber}
-use Rattle.rules.specs.Refusals.{Refusal, _when_, first, argumentsFit, caller, expired}
+use Rattle.rules.specs.Call.{Capability, Call, Outcome, Choice, code}
+use Rattle.rules.specs.Rights.{«DERIVE_CAP», has, op, read, deriveCap, feeOf, dayNumber}
+use Rattle.rules.specs.Refusals.{Refusal, _when_, first, nameFits, argumentsFit, caller, early, expired, showing}
 use Rattle.rules.specs.Changes.{setTerminated}
-use Rattle.rules.specs.Calls.{liesIn}
+use Rattle.rules.specs.Calls.{liesIn, deriveCapRefuses}
 use Rattle.rules.specs.Rule.{paid, rule, isDone}
-use Rattle.rules.specs.Questions.{windowSlot, windowRefuses, windowAsked, opening}
+use Rattle.rules.specs.Questions.{shownSlot, windowRefuses, windowAsked, opening, Wish, Fulfils, Lends, wishFits, Lent, LendAsked}
 use Rattle.rules.specs.Demand.{Words, FreshWords, Open, Allowed, Step, Legal, start, run}
 use Rattle.rules.specs.Script.{lastFree}
 
@@ -85,7 +86,7 @@ MailWakes = (supply : ℕ) (p : Password) (l : List Step) → Awake (run (start 
 -- the question's refusals, then 7
 unfoldable pub readRefuses : State → Call → List Refusal
 readRefuses s c =
-    let k : ℕ = windowSlot s (c .caller) (c .presented) in
+    let k : ℕ = shownSlot s (c .caller) (c .presented) in
     windowRefuses s (c .caller) (c .presented)
     ++ (Code.outsideWindow when not (liesIn (c .range) (s .cap k .window)) ∷ [])
 
@@ -121,3 +122,43 @@ PasswordsCaps = (s : State) (me : ℕ) (object : Name) (right : ℕ) → Valid s
 unfoldable pub AbsentNone : Type 0
 AbsentNone = (s : State) (me : ℕ) (object : Name) (right : ℕ) → Valid s → objectNamed s object ≡ 0
     → opening s me object right ≡ 0
+
+-- ---- 02, CR 10: "some derive_cap gives a capability with exactly those rights, window and last day and the sum as moneyword" is
+-- decided by comparisons and a climb
+
+-- of the capability in slot k: its rights hold the wish's, the wish's window lies in its own, the wish's last day is not after its
+-- own, and no moneyword from it up to its master is below the sum
+unfoldable pub lendable : State → ℕ → Wish → Bool
+lendable s k x =
+    has (s .cap k .rights) (x .rights)
+    && liesIn (x .window) (s .cap k .window)
+    && leb (x .lastDay) (s .cap k .lastDay)
+    && not (any (λ i. ltb (s .money i) (x .sum)) (path s k))
+
+unfoldable pub LendDecided : Type 0
+LendDecided = (s : State) (caller : Name) (x : Wish) (e : Capability) → Valid s
+    → nameFits caller ≡ true → nameFits (e .name) ≡ true → wishFits x ≡ true
+    → Lends s caller x e
+    ↔ ((first (showing s (shownSlot s caller e) «DERIVE_CAP») ≡ Code.done) × (lendable s (shownSlot s caller e) x ≡ true))
+
+-- a question has one answer
+unfoldable pub LendFixed : Type 0
+LendFixed = (s : State) (caller : Name) (l : List ℕ) (x : Wish) (r q : Lent)
+    → LendAsked s caller l x r → LendAsked s caller l x q → r ≡ q
+
+-- what will do is lent by the derive_cap with the wish's own numbers, where 2, 3 and 4 are not met and, of what is "not
+-- considered", p1 is not taken and a record is free
+unfoldable pub LentDerives : Type 0
+LentDerives = (s : State) (c : Call) (h : Choice) (x : Wish) → Valid s → Lends s (c .caller) x (c .presented)
+    → op (c .number) ≡ deriveCap
+    → c .rights ≡ x .rights → c .range ≡ x .window → c .limit ≡ x .sum → c .lastDay ≡ x .lastDay
+    → early s c ≡ Code.done
+    → first (deriveCapRefuses s c (caller s c) (shownSlot s (c .caller) (c .presented))) ≡ Code.done
+    → (isDone (rule s c h) ≡ true) × Fulfils (rule s c h .after) (h .cap) x
+
+-- and what a done derive_cap gave could be lent, where the moneywords are enough
+unfoldable pub DerivedLends : Type 0
+DerivedLends = (s : State) (c : Call) (h : Choice) (x : Wish) → op (c .number) ≡ deriveCap
+    → isDone (rule s c h) ≡ true → Fulfils (rule s c h .after) (h .cap) x
+    → ((i : ℕ) → descends s (shownSlot s (c .caller) (c .presented)) i ≡ true → x .sum ≤ s .money i)
+    → Lends s (c .caller) x (c .presented)

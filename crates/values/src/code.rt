@@ -63,3 +63,6 @@ pub const EXPIRED: u32 = 19;
 
 // "the new day is before the store's"
 pub const EARLIER_DAY: u32 = 20;
+
+// 02, CR 10: "none in the list will do"
+pub const NONE_WILL_DO: u32 = 21;

@@ -55,5 +55,11 @@ pub const MAX_DAY: u32 = 65535;
 // the last day of a derive line that has none: "a line without it takes the parent's", which is never above this
 pub const DEFAULT_LAST_DAY: u32 = MAX_DAY;
 
+// 02, CR 10: "gives up to 32 capabilities"
+pub const MAX_ENTRIES: usize = 32;
+
+// a capability in such a list is four numbers: volume, serial, p1, p2
+pub const ENTRY_NUMBERS: usize = 4;
+
 // a byte, of write and of send, as a number of a line
 pub const MAX_BYTE: u32 = 255;

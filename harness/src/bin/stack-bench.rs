@@ -5,8 +5,8 @@
 use harness::kernel::{self, FormedStore};
 use harness::pair::enter_hooked;
 use harness::request::{
-    bill_request, count_request, hook_request, pick_request, window_request, Request, BILL_REPLY,
-    COUNT_REPLY, PICK_REPLY, REPLY, WINDOW_REPLY,
+    bill_request, count_request, hook_request, lend_request, pick_request, window_request, Request,
+    BILL_REPLY, COUNT_REPLY, LEND_REPLY, PICK_REPLY, REPLY, WINDOW_REPLY,
 };
 use harness::stack::depth;
 use reference::call::{Action, Call, Key, Name, Operation};
@@ -14,6 +14,7 @@ use reference::counting::PasswordCount;
 use reference::drive::{Pick, Place, Repeat};
 use reference::hooks::{Hooked, Transfer};
 use reference::kernel::{Capability, Message, Object, Store};
+use reference::lending::{LendPlace, Wish};
 use reference::numbers::*;
 use reference::royalties::Bill;
 use trials::encode::encode;
@@ -136,6 +137,17 @@ fn count_depth(store: &Store) -> usize {
     depth(|| assert_eq!(kernel::count(&raw, &count_request(&asked), &mut reply), DONE))
 }
 
+/// The depth of a question what can be lent from the lowest capability, with a sum that all on the
+/// climb have.
+fn lend_depth(store: &Store) -> usize {
+    let (_, key) = ends(store);
+    let wish = Wish { rights: MAX_RIGHTS, start: 0, end: MAX_SIZE, sum: 5, last_day: 0 };
+    let asked = LendPlace { caller: NAME, list: key.numbers().into(), wish };
+    let raw = encode(store, &mut Random::new(4));
+    let (request, mut reply) = (lend_request(&asked), [0; LEND_REPLY]);
+    depth(|| assert_eq!(kernel::lend(&raw, &asked.list, &request, &mut reply), DONE))
+}
+
 /// The depths of a write and of a read by hook at the lowest capability.
 fn hook_depths(store: &Store) -> [usize; 2] {
     let (_, key) = ends(store);
@@ -195,6 +207,7 @@ fn main() {
     println!("{:40}{step:>8}", "drive_pick_unchecked");
     println!("{:40}{question:>8}", "store_window");
     println!("{:40}{:>8}", "password_count", count_depth(&full));
+    println!("{:40}{:>8}", "lend_place", lend_depth(&full));
     let [write, read] = hook_depths(&full);
     println!("{:40}{write:>8}", "hook_write");
     println!("{:40}{read:>8}", "hook_read");

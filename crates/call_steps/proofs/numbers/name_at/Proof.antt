@@ -1,9 +1,9 @@
--- `window_at` reads two numbers.
+-- `name_at` reads two numbers.
 use mathlib.Core.Path.{refl}
 use borrow.Author.Needs.{needs}
-use Rattle.export_numbers.specs.Numbers.{windowAt}
-use Rattle.export_numbers.proofs.numbers.window_at.Statement.{statement}
-use Rattle.export_numbers.proofs.numbers.window_at.Tie as tie
+use Rattle.call_steps.specs.Numbers.{nameAt}
+use Rattle.call_steps.proofs.numbers.name_at.Statement.{statement}
+use Rattle.call_steps.proofs.numbers.name_at.Tie as tie
 
 mul-t3 : tie.Need-mul-t3
 mul-t3 c = search needs
@@ -21,9 +21,9 @@ shared-slice-read-t9 : tie.Need-shared-slice-read-t9
 shared-slice-read-t9 c = search needs
 
 returns : tie.Need-returns
-unfolding windowAt
+unfolding nameAt
 returns c = refl
 
-pub window-at-spec : {M : Type 1} → statement M
-window-at-spec =
+pub name-at-spec : {M : Type 1} → statement M
+name-at-spec =
     tie.close (tie.spec mul-t3 shared-slice-read-t5 add-t6 mul-t7 shared-slice-read-t9 returns)

@@ -4,9 +4,9 @@ use Prim.Native.Nat.{_+_}
 use lib.ListN.{getD}
 use mathlib.Core.Path.{ap}
 use borrow.Author.Needs.{needs}
-use Rattle.export_numbers.specs.Numbers.{capabilityAt}
-use Rattle.export_numbers.proofs.numbers.capability_at.Statement.{statement}
-use Rattle.export_numbers.proofs.numbers.capability_at.Tie as tie
+use Rattle.call_steps.specs.Numbers.{capabilityAt}
+use Rattle.call_steps.proofs.numbers.capability_at.Statement.{statement}
+use Rattle.call_steps.proofs.numbers.capability_at.Tie as tie
 
 name-at-requires : tie.Need-name-at-requires
 name-at-requires c κs = search needs
