@@ -80,7 +80,7 @@ pub fn definitions() -> Option<String> {
 }
 
 /// The examples.
-pub const EXAMPLES: [Example; 25] = [
+pub const EXAMPLES: [Example; 26] = [
     Example {
         name: "example",
         touches: "the script of 01",
@@ -202,6 +202,32 @@ pub const EXAMPLES: [Example; 25] = [
 4 0 1 3 9 3 4
 5 0 1 3 9 1 2 8191 0 16 1
 5 0 1 3 9 1 2 8191 0 16 1 7 13 14 0",
+    },
+    Example {
+        name: "unnamed",
+        touches: "lines without a limit, from parents with money: what they give has none",
+        text: "1000 5 9
+1 0 1 3 16 0 8191 9 1 2
+9 0 1 3 9 1 2 100
+5 0 1 3 9 1 2 8191 0 16 3 4
+5 0 1 3 9 1 2 8191 0 16 4294967295 5 6
+5 0 1 3 9 3 4 8191 0 16 4294967295 7 8
+5 0 1 3 9 5 6 8191 4 12 9 10
+4 0 1 3 9 3 4
+4 0 1 3 9 5 6
+4 0 1 3 9 7 8
+4 0 1 3 9 9 10
+8 0 1 3 9 3 4 1
+8 0 1 3 9 5 6 1
+9 0 1 3 9 3 4 5
+8 0 1 3 9 3 4 5
+9 0 1 3 9 7 8 5
+4 0 1 3 9 3 4
+5 0 1 3 9 7 8 8191 0 16 11 12
+4 0 1 3 9 11 12
+6 0 1 3 9 3 4
+4 0 1 3 9 11 12
+4 0 1 3 9 1 2",
     },
     Example {
         name: "overflow",

@@ -211,7 +211,7 @@ limits = record {
       ∷ (0 ∷ 16 ∷ 100 ∷ [])
       ∷ (0 ∷ 16 ∷ 40 ∷ [])
       ∷ (0 ∷ 16 ∷ 100 ∷ [])
-      ∷ (0 ∷ 16 ∷ 100 ∷ [])
+      ∷ (0 ∷ 16 ∷ 0 ∷ [])
       ∷ (0 ∷ 16 ∷ 40 ∷ [])
       ∷ (0 ∷ 16 ∷ 0 ∷ [])
       ∷ (9 ∷ [])
@@ -228,6 +228,61 @@ limits = record {
       ∷ (2 ∷ [])
       ∷ [];
   totals = 926 ∷ 5 ∷ 0 ∷ 69 ∷ [];
+}
+
+-- lines without a limit, from parents with money: what they give has none
+unfoldable pub unnamed : Example
+unnamed = record {
+  supply = 1000;
+  p1 = 5;
+  p2 = 9;
+  lines =
+      (1 ∷ 0 ∷ 1 ∷ 3 ∷ 16 ∷ 0 ∷ 8191 ∷ 9 ∷ 1 ∷ 2 ∷ [])
+      ∷ (9 ∷ 0 ∷ 1 ∷ 3 ∷ 9 ∷ 1 ∷ 2 ∷ 100 ∷ [])
+      ∷ (5 ∷ 0 ∷ 1 ∷ 3 ∷ 9 ∷ 1 ∷ 2 ∷ 8191 ∷ 0 ∷ 16 ∷ 3 ∷ 4 ∷ [])
+      ∷ (5 ∷ 0 ∷ 1 ∷ 3 ∷ 9 ∷ 1 ∷ 2 ∷ 8191 ∷ 0 ∷ 16 ∷ 4294967295 ∷ 5 ∷ 6 ∷ [])
+      ∷ (5 ∷ 0 ∷ 1 ∷ 3 ∷ 9 ∷ 3 ∷ 4 ∷ 8191 ∷ 0 ∷ 16 ∷ 4294967295 ∷ 7 ∷ 8 ∷ [])
+      ∷ (5 ∷ 0 ∷ 1 ∷ 3 ∷ 9 ∷ 5 ∷ 6 ∷ 8191 ∷ 4 ∷ 12 ∷ 9 ∷ 10 ∷ [])
+      ∷ (4 ∷ 0 ∷ 1 ∷ 3 ∷ 9 ∷ 3 ∷ 4 ∷ [])
+      ∷ (4 ∷ 0 ∷ 1 ∷ 3 ∷ 9 ∷ 5 ∷ 6 ∷ [])
+      ∷ (4 ∷ 0 ∷ 1 ∷ 3 ∷ 9 ∷ 7 ∷ 8 ∷ [])
+      ∷ (4 ∷ 0 ∷ 1 ∷ 3 ∷ 9 ∷ 9 ∷ 10 ∷ [])
+      ∷ (8 ∷ 0 ∷ 1 ∷ 3 ∷ 9 ∷ 3 ∷ 4 ∷ 1 ∷ [])
+      ∷ (8 ∷ 0 ∷ 1 ∷ 3 ∷ 9 ∷ 5 ∷ 6 ∷ 1 ∷ [])
+      ∷ (9 ∷ 0 ∷ 1 ∷ 3 ∷ 9 ∷ 3 ∷ 4 ∷ 5 ∷ [])
+      ∷ (8 ∷ 0 ∷ 1 ∷ 3 ∷ 9 ∷ 3 ∷ 4 ∷ 5 ∷ [])
+      ∷ (9 ∷ 0 ∷ 1 ∷ 3 ∷ 9 ∷ 7 ∷ 8 ∷ 5 ∷ [])
+      ∷ (4 ∷ 0 ∷ 1 ∷ 3 ∷ 9 ∷ 3 ∷ 4 ∷ [])
+      ∷ (5 ∷ 0 ∷ 1 ∷ 3 ∷ 9 ∷ 7 ∷ 8 ∷ 8191 ∷ 0 ∷ 16 ∷ 11 ∷ 12 ∷ [])
+      ∷ (4 ∷ 0 ∷ 1 ∷ 3 ∷ 9 ∷ 11 ∷ 12 ∷ [])
+      ∷ (6 ∷ 0 ∷ 1 ∷ 3 ∷ 9 ∷ 3 ∷ 4 ∷ [])
+      ∷ (4 ∷ 0 ∷ 1 ∷ 3 ∷ 9 ∷ 11 ∷ 12 ∷ [])
+      ∷ (4 ∷ 0 ∷ 1 ∷ 3 ∷ 9 ∷ 1 ∷ 2 ∷ [])
+      ∷ [];
+  answers =
+      (0 ∷ 3 ∷ 9 ∷ 1 ∷ 2 ∷ [])
+      ∷ (0 ∷ [])
+      ∷ (0 ∷ 3 ∷ 9 ∷ 3 ∷ 4 ∷ [])
+      ∷ (0 ∷ 3 ∷ 9 ∷ 5 ∷ 6 ∷ [])
+      ∷ (0 ∷ 3 ∷ 9 ∷ 7 ∷ 8 ∷ [])
+      ∷ (0 ∷ 3 ∷ 9 ∷ 9 ∷ 10 ∷ [])
+      ∷ (0 ∷ 16 ∷ 0 ∷ [])
+      ∷ (0 ∷ 16 ∷ 100 ∷ [])
+      ∷ (0 ∷ 16 ∷ 0 ∷ [])
+      ∷ (0 ∷ 8 ∷ 0 ∷ [])
+      ∷ (9 ∷ [])
+      ∷ (0 ∷ [])
+      ∷ (0 ∷ [])
+      ∷ (0 ∷ [])
+      ∷ (0 ∷ [])
+      ∷ (0 ∷ 16 ∷ 5 ∷ [])
+      ∷ (0 ∷ 3 ∷ 9 ∷ 11 ∷ 12 ∷ [])
+      ∷ (0 ∷ 16 ∷ 0 ∷ [])
+      ∷ (0 ∷ [])
+      ∷ (5 ∷ [])
+      ∷ (0 ∷ 16 ∷ 104 ∷ [])
+      ∷ [];
+  totals = 826 ∷ 104 ∷ 0 ∷ 70 ∷ [];
 }
 
 -- a deposit that a moneyword below the master cannot hold; the largest that it can
@@ -886,7 +941,7 @@ leftout = record {
       ∷ (19 ∷ [])
       ∷ (19 ∷ [])
       ∷ (19 ∷ [])
-      ∷ (0 ∷ 16 ∷ 100 ∷ [])
+      ∷ (0 ∷ 16 ∷ 0 ∷ [])
       ∷ [];
   totals = 847 ∷ 100 ∷ 0 ∷ 53 ∷ [];
 }
@@ -1101,9 +1156,9 @@ hosting = record {
 }
 
 unfoldable pub scripts : List Example
-scripts = siblings ∷ windows ∷ purses ∷ limits ∷ overflow ∷ locks ∷ reuse ∷ itself ∷ ending ∷ mail ∷ poverty ∷ revival ∷ renaming ∷ rights ∷ blocks ∷ arguments ∷ calendar ∷ licences ∷ leftout ∷ outdated ∷ heirs ∷ overdue ∷ belated ∷ hosting ∷ []
+scripts = siblings ∷ windows ∷ purses ∷ limits ∷ unnamed ∷ overflow ∷ locks ∷ reuse ∷ itself ∷ ending ∷ mail ∷ poverty ∷ revival ∷ renaming ∷ rights ∷ blocks ∷ arguments ∷ calendar ∷ licences ∷ leftout ∷ outdated ∷ heirs ∷ overdue ∷ belated ∷ hosting ∷ []
 
 -- what a theorem that computes with these tables unfolds
 unfoldable pub computes : Unit {0}
-unfolding siblings windows purses limits overflow locks reuse itself ending mail poverty revival renaming rights blocks arguments calendar licences leftout outdated heirs overdue belated hosting scripts
+unfolding siblings windows purses limits unnamed overflow locks reuse itself ending mail poverty revival renaming rights blocks arguments calendar licences leftout outdated heirs overdue belated hosting scripts
 computes = tt
