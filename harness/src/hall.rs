@@ -46,7 +46,7 @@ pub fn hall(length: u32, random: &mut Random) -> Pair {
         let write = Action::Write { start, end: start + MAX_TRANSFER, data };
         by_boss(&mut pair, Operation::On(CARDS, write), random);
     }
-    let (start, end, limit) = (START, START + length, DEFAULT_LIMIT);
+    let (start, end, limit) = (START, START + length, MAX_WORD);
     let derived = [
         (ROWS, right::READ, DAY),
         (BLIND, MAX_RIGHTS & !right::READ, DAY),

@@ -154,7 +154,7 @@ fn a_licence_day_by_day() {
     let mut pair = hall(64, &mut random);
     let asked = count(WEAVER.name, CARDS.name, right::READ);
     assert_eq!(pair.count(&asked), [DONE, 2]);
-    let (limit, last_day) = (DEFAULT_LIMIT, DAY + 2);
+    let (limit, last_day) = (MAX_WORD, DAY + 2);
     let derive =
         Action::DeriveCap { mask: MAX_RIGHTS, start: 0, end: 9, limit, last_day, p1: 71, p2: 1 };
     by_boss(&mut pair, Operation::On(CARDS, derive), &mut random);

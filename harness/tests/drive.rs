@@ -184,7 +184,7 @@ fn a_licence_that_ends_in_a_repeat() {
     let mut pair = hall(LENGTH, &mut random);
     let new = Key { p1: 71, p2: 72, ..CARDS };
     let (start, end) = pair.store.window(BOSS.name, ROWS).expect("the rows");
-    let (mask, limit, last_day) = (right::READ, DEFAULT_LIMIT, DAY + 30);
+    let (mask, limit, last_day) = (right::READ, MAX_WORD, DAY + 30);
     let derive = Action::DeriveCap { mask, start, end, limit, last_day, p1: new.p1, p2: new.p2 };
     by_boss(&mut pair, Operation::On(CARDS, derive), &mut random);
     let (mut pick, mut total) = (Pick { caller: BOSS.name, ..PICK }, 0);

@@ -90,7 +90,7 @@ const LICENCE: Key = Key { p1: 71, p2: 72, ..WEAVER };
 const BELOW: Key = Key { p1: 81, p2: 82, ..WEAVER };
 
 fn derive(from: Key, mask: u32, last_day: u32, new: Key) -> Operation {
-    let (limit, p1, p2) = (DEFAULT_LIMIT, new.p1, new.p2);
+    let (limit, p1, p2) = (MAX_WORD, new.p1, new.p2);
     Operation::On(from, Action::DeriveCap { mask, start: 0, end: 0, limit, last_day, p1, p2 })
 }
 

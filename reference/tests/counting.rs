@@ -186,7 +186,7 @@ fn derives_and_deletes() {
     let master = Key { name: PATTERN, p1: 11, p2: 12 };
     let key = |p1| Key { p1, ..master };
     let derive = |from, mask, p1| {
-        let limit = DEFAULT_LIMIT;
+        let limit = MAX_WORD;
         let last_day = DEFAULT_LAST_DAY;
         let action = Action::DeriveCap { mask, start: 0, end: 0, limit, last_day, p1, p2: 12 };
         Operation::On(key(from), action)

@@ -37,7 +37,7 @@ fn hall(length: u32) -> Store {
         mask: MAX_RIGHTS,
         start,
         end: start + length,
-        limit: DEFAULT_LIMIT,
+        limit: MAX_WORD,
         last_day: DAY,
         p1: ROWS.p1,
         p2: ROWS.p2,

@@ -84,7 +84,7 @@ fn hall(money: u32) -> Store {
         mask: MAX_RIGHTS,
         start: 0,
         end: 0,
-        limit: DEFAULT_LIMIT,
+        limit: MAX_WORD,
         last_day: DAY,
         p1: PURSE.p1,
         p2: PURSE.p2,

@@ -22,7 +22,7 @@ fn set_day(day: u32) -> Call {
 }
 
 fn derive(from: Key, mask: u32, last_day: u32, new: Key) -> Operation {
-    let (limit, p1, p2) = (DEFAULT_LIMIT, new.p1, new.p2);
+    let (limit, p1, p2) = (MAX_WORD, new.p1, new.p2);
     Operation::On(from, Action::DeriveCap { mask, start: 0, end: 64, limit, last_day, p1, p2 })
 }
 

@@ -467,14 +467,15 @@ impl Generator {
         Action::DeriveCap { mask, start, end, limit, last_day, p1, p2: self.word() }
     }
 
-    /// derive_cap's limit beside the parent's moneyword: below, at or above it, 0, or the largest.
+    /// derive_cap's limit beside the parent's moneyword: below, at or above it, a line's default, or
+    /// the largest.
     fn limit(&mut self, moneyword: u32) -> u32 {
-        match self.random.below(10) {
-            0 => 0,
-            1 => moneyword,
-            2 => moneyword.saturating_add(self.random.between(1, 3)),
-            3 | 4 => self.random.between(0, moneyword),
-            5 => self.word(),
+        match self.random.below(12) {
+            0..=2 => DEFAULT_LIMIT,
+            3 => moneyword,
+            4 => moneyword.saturating_add(self.random.between(1, 3)),
+            5 | 6 => self.random.between(0, moneyword),
+            7 => self.word(),
             _ => MAX_WORD,
         }
     }
@@ -548,8 +549,8 @@ impl Generator {
         }
     }
 
-    /// The numbers of the call's line; half of those with the default last day leave it out, and
-    /// half of these, where the limit is the default one, that too.
+    /// The numbers of the call's line; most of those with the default last day leave it out, and
+    /// most of these, where the limit is the default one, that too.
     fn line_numbers(&mut self, call: &Call) -> Vec<u32> {
         let mut numbers = script::call_numbers(call);
         let Operation::On(_, Action::DeriveCap { limit, last_day, .. }) = call.operation else {
@@ -557,7 +558,7 @@ impl Generator {
         };
         // each stands before p1 and p2, when those after it are out
         for default in [last_day == DEFAULT_LAST_DAY, limit == DEFAULT_LIMIT] {
-            if !(default && self.random.chance(500)) {
+            if !(default && self.random.chance(750)) {
                 break;
             }
             numbers.remove(numbers.len() - 3);

@@ -1,7 +1,9 @@
-//! The tables of docs/MANUAL.md say what the reference has: calls, fees, rights, refusals, limits.
+//! The tables of docs/MANUAL.md say what the reference has: calls, fees, rights, refusals, limits, and
+//! what it writes for the scripts.
 
 use reference::call::{CALLS, SET_DAY};
 use reference::numbers::*;
+use reference::script::run_script;
 use std::collections::BTreeMap;
 use trials::coverage::refusals;
 
@@ -80,4 +82,23 @@ fn rights_answers_and_limits() {
     let mut ours = constants(outer);
     ours.remove("MAX_LINE");
     assert_eq!(said, ours);
+}
+
+/// Each table of script lines has beside them what the reference writes; the first is the example.
+#[test]
+fn scripts() {
+    let rows = rows("## The script");
+    let column = |table: &[Vec<&str>], at: usize| {
+        let cells =
+            table.iter().filter_map(move |row| row[at].strip_prefix('`')?.strip_suffix('`'));
+        cells.map(|cell| format!("{cell}\n")).collect::<String>()
+    };
+    let tables: Vec<_> = rows.split(|row| row[0] == "line").skip(1).collect();
+    for table in &tables {
+        let mut output = Vec::new();
+        run_script(&mut column(table, 0).as_bytes(), &mut output).expect("a run in memory");
+        assert_eq!(String::from_utf8(output).expect("output in digits"), column(table, 1));
+    }
+    assert_eq!(tables.len(), 3);
+    assert_eq!(column(tables[0], 0), include_str!("../../docs/example.script"));
 }

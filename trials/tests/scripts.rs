@@ -1,8 +1,10 @@
-//! Scripts to the byte: 01's example, malformed input, random bytes, and the table of examples.
+//! Scripts to the byte: 01's example, malformed input, random bytes, lines without a limit, and the table
+//! of examples.
 
-use reference::call::Operation;
+use reference::call::{Action, Operation};
 use reference::kernel::Store;
-use reference::script::{call_numbers, read_call, run_script};
+use reference::numbers::{DONE, MAX_WORD};
+use reference::script::{answer_line, call_numbers, read_call, read_numbers, run_script};
 use std::collections::BTreeSet;
 use std::io::{BufRead, BufReader};
 use trials::examples::{definitions, EXAMPLES};
@@ -269,6 +271,74 @@ fn generated_scripts() {
             assert_eq!(run_from(BufReader::with_capacity(3, &text[..])), output);
         }
     }
+}
+
+/// The place of the limit in a line of derive_cap, and the numbers of a line that has none.
+const LIMIT: usize = 10;
+const WITHOUT_LIMIT: usize = 12;
+
+/// 02, CR 11: "A derive_cap line without a limit now gives moneyword 0", and "Nothing else about the
+/// tree changes": with the largest limit the answer is the same, and so is the store but for the
+/// child's moneyword, which is then the parent's. With the limit 0 the line is the same call.
+#[test]
+fn lines_without_a_limit() {
+    let (mut lent, mut none) = (0, 0);
+    for profile in PROFILES {
+        let mut generator = Generator::new(profile, 5);
+        let [supply, p1, p2] = generator.first();
+        let mut store = Store::fresh(supply, p1, p2);
+        for _ in 0..1_000 {
+            let call = generator.next_call(&store);
+            if let Operation::On(key, Action::DeriveCap { p1, .. }) = call.operation {
+                let mut line = call_numbers(&call);
+                line.drain(LIMIT..LIMIT + 2);
+                assert_eq!(line.len(), WITHOUT_LIMIT);
+                let with = |limit| [&line[..LIMIT], &[limit], &line[LIMIT..]].concat();
+                assert_eq!(read_call(&line), read_call(&with(0)));
+                let (mut bare, mut whole) = (store.clone(), store.clone());
+                let answer = answer_line(&mut bare, Some(&line));
+                assert_eq!(answer_line(&mut whole, Some(&with(MAX_WORD))), answer);
+                if answer[0] == DONE {
+                    let parent = store.find(call.caller, key).expect("a parent");
+                    let parents = store.moneyword(parent);
+                    let child = bare.capabilities.get_mut(&(key.name, p1)).expect("a child");
+                    assert_eq!(std::mem::replace(&mut child.moneyword, parents), 0);
+                    *(if parents > 0 { &mut lent } else { &mut none }) += 1;
+                }
+                assert_eq!(bare, whole);
+            }
+            store.run(&call);
+        }
+    }
+    assert!(lent > 100 && none > 100, "{lent} and {none}");
+}
+
+/// The script with this limit in each line of derive_cap that has none.
+fn with_limits(text: &[u8], limit: u32) -> Vec<u8> {
+    let lines = text.split(|byte| *byte == b'\n').map(|line| match read_numbers(line) {
+        Some(mut numbers) if numbers[0] == 5 && numbers.len() == WITHOUT_LIMIT => {
+            numbers.insert(LIMIT, limit);
+            numbers.iter().map(u32::to_string).collect::<Vec<_>>().join(" ").into_bytes()
+        }
+        _ => line.to_vec(),
+    });
+    lines.collect::<Vec<_>>().join(&b'\n')
+}
+
+/// Generated scripts write the same with the limit 0 in the lines that have none; with the largest,
+/// some write something else, so that what such lines lend is seen in them.
+#[test]
+fn scripts_without_limits() {
+    let mut differ = 0;
+    for profile in PROFILES {
+        for seed in 0..8 {
+            let text = script(profile, seed, 1_000);
+            let output = run(&text);
+            assert_eq!(run(&with_limits(&text, 0)), output, "{} {seed}", profile.name);
+            differ += u32::from(run(&with_limits(&text, MAX_WORD)) != output);
+        }
+    }
+    assert!(differ > 10, "{differ}");
 }
 
 /// A call's line is read back as the call, but for the caller where it has none.

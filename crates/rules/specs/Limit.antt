@@ -64,9 +64,9 @@ word = 4294967295
 abbrev pub half : ℕ
 half = 4294967296
 
--- 02, CR 1: the limit of a derive line that has none, which "behaves as before"
+-- 02, CR 11: "A derive_cap line without a limit now gives moneyword 0."
 abbrev pub defaultLimit : ℕ
-defaultLimit = word
+defaultLimit = 0
 
 -- 02, CR 9: "The store holds a day, 0 to 65,535"; "A day or a last day above 65,535 is 2."; of last days, "A master's is 65,535."
 abbrev pub day : ℕ

@@ -47,8 +47,8 @@ lacks n o l = not (eqb (place o lastDay) 0) && eqb (n + length l) (length (field
 unfoldable pub putIn : ℕ → List ℕ → List ℕ → List ℕ
 putIn p ns l = take p l ++ ns ++ drop p l
 
--- 02, CR 9: "a line without it takes the parent's", of the last day; CR 1: "A script line without the limit behaves as
--- before". Such a line is read with the defaults in their places: that of the last day, or those of both
+-- 02, CR 9: "a line without it takes the parent's", of the last day; CR 11: "A derive_cap line without a limit now gives
+-- moneyword 0." Such a line is read with the defaults in their places: that of the last day, or those of both
 unfoldable pub whole : Op → List ℕ → List ℕ
 whole o l = elim (lacks 1 o l) [
   | true ↦ putIn (place o lastDay) (Limit.defaultLastDay ∷ []) l

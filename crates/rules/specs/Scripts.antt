@@ -123,8 +123,8 @@ purses = record {
   lines =
       (1 ∷ 0 ∷ 1 ∷ 3 ∷ 16 ∷ 0 ∷ 8191 ∷ 9 ∷ 1 ∷ 2 ∷ [])
       ∷ (9 ∷ 0 ∷ 1 ∷ 3 ∷ 9 ∷ 1 ∷ 2 ∷ 1000 ∷ [])
-      ∷ (5 ∷ 0 ∷ 1 ∷ 3 ∷ 9 ∷ 1 ∷ 2 ∷ 8191 ∷ 0 ∷ 16 ∷ 3 ∷ 4 ∷ [])
-      ∷ (5 ∷ 0 ∷ 1 ∷ 3 ∷ 9 ∷ 3 ∷ 4 ∷ 8191 ∷ 0 ∷ 16 ∷ 5 ∷ 6 ∷ [])
+      ∷ (5 ∷ 0 ∷ 1 ∷ 3 ∷ 9 ∷ 1 ∷ 2 ∷ 8191 ∷ 0 ∷ 16 ∷ 4294967295 ∷ 3 ∷ 4 ∷ [])
+      ∷ (5 ∷ 0 ∷ 1 ∷ 3 ∷ 9 ∷ 3 ∷ 4 ∷ 8191 ∷ 0 ∷ 16 ∷ 4294967295 ∷ 5 ∷ 6 ∷ [])
       ∷ (8 ∷ 0 ∷ 1 ∷ 3 ∷ 9 ∷ 5 ∷ 6 ∷ 300 ∷ [])
       ∷ (4 ∷ 0 ∷ 1 ∷ 3 ∷ 9 ∷ 1 ∷ 2 ∷ [])
       ∷ (4 ∷ 0 ∷ 1 ∷ 3 ∷ 9 ∷ 3 ∷ 4 ∷ [])
@@ -211,7 +211,7 @@ limits = record {
       ∷ (0 ∷ 16 ∷ 100 ∷ [])
       ∷ (0 ∷ 16 ∷ 40 ∷ [])
       ∷ (0 ∷ 16 ∷ 100 ∷ [])
-      ∷ (0 ∷ 16 ∷ 100 ∷ [])
+      ∷ (0 ∷ 16 ∷ 0 ∷ [])
       ∷ (0 ∷ 16 ∷ 40 ∷ [])
       ∷ (0 ∷ 16 ∷ 0 ∷ [])
       ∷ (9 ∷ [])
@@ -230,6 +230,61 @@ limits = record {
   totals = 926 ∷ 5 ∷ 0 ∷ 69 ∷ [];
 }
 
+-- lines without a limit, from parents with money: what they give has none
+unfoldable pub unnamed : Example
+unnamed = record {
+  supply = 1000;
+  p1 = 5;
+  p2 = 9;
+  lines =
+      (1 ∷ 0 ∷ 1 ∷ 3 ∷ 16 ∷ 0 ∷ 8191 ∷ 9 ∷ 1 ∷ 2 ∷ [])
+      ∷ (9 ∷ 0 ∷ 1 ∷ 3 ∷ 9 ∷ 1 ∷ 2 ∷ 100 ∷ [])
+      ∷ (5 ∷ 0 ∷ 1 ∷ 3 ∷ 9 ∷ 1 ∷ 2 ∷ 8191 ∷ 0 ∷ 16 ∷ 3 ∷ 4 ∷ [])
+      ∷ (5 ∷ 0 ∷ 1 ∷ 3 ∷ 9 ∷ 1 ∷ 2 ∷ 8191 ∷ 0 ∷ 16 ∷ 4294967295 ∷ 5 ∷ 6 ∷ [])
+      ∷ (5 ∷ 0 ∷ 1 ∷ 3 ∷ 9 ∷ 3 ∷ 4 ∷ 8191 ∷ 0 ∷ 16 ∷ 4294967295 ∷ 7 ∷ 8 ∷ [])
+      ∷ (5 ∷ 0 ∷ 1 ∷ 3 ∷ 9 ∷ 5 ∷ 6 ∷ 8191 ∷ 4 ∷ 12 ∷ 9 ∷ 10 ∷ [])
+      ∷ (4 ∷ 0 ∷ 1 ∷ 3 ∷ 9 ∷ 3 ∷ 4 ∷ [])
+      ∷ (4 ∷ 0 ∷ 1 ∷ 3 ∷ 9 ∷ 5 ∷ 6 ∷ [])
+      ∷ (4 ∷ 0 ∷ 1 ∷ 3 ∷ 9 ∷ 7 ∷ 8 ∷ [])
+      ∷ (4 ∷ 0 ∷ 1 ∷ 3 ∷ 9 ∷ 9 ∷ 10 ∷ [])
+      ∷ (8 ∷ 0 ∷ 1 ∷ 3 ∷ 9 ∷ 3 ∷ 4 ∷ 1 ∷ [])
+      ∷ (8 ∷ 0 ∷ 1 ∷ 3 ∷ 9 ∷ 5 ∷ 6 ∷ 1 ∷ [])
+      ∷ (9 ∷ 0 ∷ 1 ∷ 3 ∷ 9 ∷ 3 ∷ 4 ∷ 5 ∷ [])
+      ∷ (8 ∷ 0 ∷ 1 ∷ 3 ∷ 9 ∷ 3 ∷ 4 ∷ 5 ∷ [])
+      ∷ (9 ∷ 0 ∷ 1 ∷ 3 ∷ 9 ∷ 7 ∷ 8 ∷ 5 ∷ [])
+      ∷ (4 ∷ 0 ∷ 1 ∷ 3 ∷ 9 ∷ 3 ∷ 4 ∷ [])
+      ∷ (5 ∷ 0 ∷ 1 ∷ 3 ∷ 9 ∷ 7 ∷ 8 ∷ 8191 ∷ 0 ∷ 16 ∷ 11 ∷ 12 ∷ [])
+      ∷ (4 ∷ 0 ∷ 1 ∷ 3 ∷ 9 ∷ 11 ∷ 12 ∷ [])
+      ∷ (6 ∷ 0 ∷ 1 ∷ 3 ∷ 9 ∷ 3 ∷ 4 ∷ [])
+      ∷ (4 ∷ 0 ∷ 1 ∷ 3 ∷ 9 ∷ 11 ∷ 12 ∷ [])
+      ∷ (4 ∷ 0 ∷ 1 ∷ 3 ∷ 9 ∷ 1 ∷ 2 ∷ [])
+      ∷ [];
+  answers =
+      (0 ∷ 3 ∷ 9 ∷ 1 ∷ 2 ∷ [])
+      ∷ (0 ∷ [])
+      ∷ (0 ∷ 3 ∷ 9 ∷ 3 ∷ 4 ∷ [])
+      ∷ (0 ∷ 3 ∷ 9 ∷ 5 ∷ 6 ∷ [])
+      ∷ (0 ∷ 3 ∷ 9 ∷ 7 ∷ 8 ∷ [])
+      ∷ (0 ∷ 3 ∷ 9 ∷ 9 ∷ 10 ∷ [])
+      ∷ (0 ∷ 16 ∷ 0 ∷ [])
+      ∷ (0 ∷ 16 ∷ 100 ∷ [])
+      ∷ (0 ∷ 16 ∷ 0 ∷ [])
+      ∷ (0 ∷ 8 ∷ 0 ∷ [])
+      ∷ (9 ∷ [])
+      ∷ (0 ∷ [])
+      ∷ (0 ∷ [])
+      ∷ (0 ∷ [])
+      ∷ (0 ∷ [])
+      ∷ (0 ∷ 16 ∷ 5 ∷ [])
+      ∷ (0 ∷ 3 ∷ 9 ∷ 11 ∷ 12 ∷ [])
+      ∷ (0 ∷ 16 ∷ 0 ∷ [])
+      ∷ (0 ∷ [])
+      ∷ (5 ∷ [])
+      ∷ (0 ∷ 16 ∷ 104 ∷ [])
+      ∷ [];
+  totals = 826 ∷ 104 ∷ 0 ∷ 70 ∷ [];
+}
+
 -- a deposit that a moneyword below the master cannot hold; the largest that it can
 unfoldable pub overflow : Example
 overflow = record {
@@ -239,7 +294,7 @@ overflow = record {
   lines =
       (1 ∷ 0 ∷ 1 ∷ 3 ∷ 0 ∷ 0 ∷ 8191 ∷ 9 ∷ 1 ∷ 2 ∷ [])
       ∷ (9 ∷ 0 ∷ 1 ∷ 3 ∷ 9 ∷ 1 ∷ 2 ∷ 4000000000 ∷ [])
-      ∷ (5 ∷ 0 ∷ 1 ∷ 3 ∷ 9 ∷ 1 ∷ 2 ∷ 8191 ∷ 0 ∷ 16 ∷ 3 ∷ 4 ∷ [])
+      ∷ (5 ∷ 0 ∷ 1 ∷ 3 ∷ 9 ∷ 1 ∷ 2 ∷ 8191 ∷ 0 ∷ 16 ∷ 4294967295 ∷ 3 ∷ 4 ∷ [])
       ∷ (8 ∷ 0 ∷ 1 ∷ 3 ∷ 9 ∷ 1 ∷ 2 ∷ 4000000000 ∷ [])
       ∷ (9 ∷ 0 ∷ 1 ∷ 3 ∷ 9 ∷ 3 ∷ 4 ∷ 300000000 ∷ [])
       ∷ (9 ∷ 0 ∷ 1 ∷ 3 ∷ 9 ∷ 3 ∷ 4 ∷ 294967296 ∷ [])
@@ -415,7 +470,7 @@ ending = record {
       ∷ (13 ∷ 0 ∷ 1 ∷ 1 ∷ 2 ∷ 11 ∷ 12 ∷ 30 ∷ [])
       ∷ (14 ∷ 1 ∷ 2 ∷ [])
       ∷ (16 ∷ 0 ∷ 1 ∷ 1 ∷ 2 ∷ 11 ∷ 12 ∷ 200 ∷ [])
-      ∷ (5 ∷ 1 ∷ 2 ∷ 1 ∷ 2 ∷ 11 ∷ 12 ∷ 8191 ∷ 0 ∷ 64 ∷ 21 ∷ 22 ∷ [])
+      ∷ (5 ∷ 1 ∷ 2 ∷ 1 ∷ 2 ∷ 11 ∷ 12 ∷ 8191 ∷ 0 ∷ 64 ∷ 4294967295 ∷ 21 ∷ 22 ∷ [])
       ∷ (6 ∷ 1 ∷ 2 ∷ 1 ∷ 2 ∷ 11 ∷ 12 ∷ [])
       ∷ (15 ∷ 1 ∷ 2 ∷ [])
       ∷ (4 ∷ 0 ∷ 1 ∷ 1 ∷ 2 ∷ 21 ∷ 22 ∷ [])
@@ -575,7 +630,7 @@ renaming = record {
   lines =
       (1 ∷ 0 ∷ 1 ∷ 2 ∷ 64 ∷ 0 ∷ 8191 ∷ 7 ∷ 11 ∷ 13 ∷ [])
       ∷ (9 ∷ 0 ∷ 1 ∷ 2 ∷ 7 ∷ 11 ∷ 13 ∷ 50 ∷ [])
-      ∷ (5 ∷ 0 ∷ 1 ∷ 2 ∷ 7 ∷ 11 ∷ 13 ∷ 8191 ∷ 8 ∷ 16 ∷ 21 ∷ 22 ∷ [])
+      ∷ (5 ∷ 0 ∷ 1 ∷ 2 ∷ 7 ∷ 11 ∷ 13 ∷ 8191 ∷ 8 ∷ 16 ∷ 4294967295 ∷ 21 ∷ 22 ∷ [])
       ∷ (7 ∷ 0 ∷ 1 ∷ 2 ∷ 7 ∷ 21 ∷ 22 ∷ 31 ∷ 32 ∷ [])
       ∷ (7 ∷ 0 ∷ 1 ∷ 2 ∷ 7 ∷ 21 ∷ 22 ∷ 11 ∷ 32 ∷ [])
       ∷ (7 ∷ 0 ∷ 1 ∷ 2 ∷ 7 ∷ 11 ∷ 13 ∷ 21 ∷ 32 ∷ [])
@@ -584,7 +639,7 @@ renaming = record {
       ∷ (4 ∷ 0 ∷ 1 ∷ 2 ∷ 7 ∷ 11 ∷ 13 ∷ [])
       ∷ (4 ∷ 0 ∷ 1 ∷ 2 ∷ 7 ∷ 21 ∷ 22 ∷ [])
       ∷ (4 ∷ 0 ∷ 1 ∷ 2 ∷ 7 ∷ 31 ∷ 32 ∷ [])
-      ∷ (5 ∷ 0 ∷ 1 ∷ 2 ∷ 7 ∷ 31 ∷ 32 ∷ 8191 ∷ 0 ∷ 64 ∷ 11 ∷ 99 ∷ [])
+      ∷ (5 ∷ 0 ∷ 1 ∷ 2 ∷ 7 ∷ 31 ∷ 32 ∷ 8191 ∷ 0 ∷ 64 ∷ 4294967295 ∷ 11 ∷ 99 ∷ [])
       ∷ (5 ∷ 0 ∷ 1 ∷ 2 ∷ 7 ∷ 31 ∷ 32 ∷ 8191 ∷ 0 ∷ 64 ∷ 11 ∷ 1 ∷ [])
       ∷ (4 ∷ 0 ∷ 1 ∷ 2 ∷ 7 ∷ 11 ∷ 99 ∷ [])
       ∷ [];
@@ -886,7 +941,7 @@ leftout = record {
       ∷ (19 ∷ [])
       ∷ (19 ∷ [])
       ∷ (19 ∷ [])
-      ∷ (0 ∷ 16 ∷ 100 ∷ [])
+      ∷ (0 ∷ 16 ∷ 0 ∷ [])
       ∷ [];
   totals = 847 ∷ 100 ∷ 0 ∷ 53 ∷ [];
 }
@@ -1101,9 +1156,9 @@ hosting = record {
 }
 
 unfoldable pub scripts : List Example
-scripts = siblings ∷ windows ∷ purses ∷ limits ∷ overflow ∷ locks ∷ reuse ∷ itself ∷ ending ∷ mail ∷ poverty ∷ revival ∷ renaming ∷ rights ∷ blocks ∷ arguments ∷ calendar ∷ licences ∷ leftout ∷ outdated ∷ heirs ∷ overdue ∷ belated ∷ hosting ∷ []
+scripts = siblings ∷ windows ∷ purses ∷ limits ∷ unnamed ∷ overflow ∷ locks ∷ reuse ∷ itself ∷ ending ∷ mail ∷ poverty ∷ revival ∷ renaming ∷ rights ∷ blocks ∷ arguments ∷ calendar ∷ licences ∷ leftout ∷ outdated ∷ heirs ∷ overdue ∷ belated ∷ hosting ∷ []
 
 -- what a theorem that computes with these tables unfolds
 unfoldable pub computes : Unit {0}
-unfolding siblings windows purses limits overflow locks reuse itself ending mail poverty revival renaming rights blocks arguments calendar licences leftout outdated heirs overdue belated hosting scripts
+unfolding siblings windows purses limits unnamed overflow locks reuse itself ending mail poverty revival renaming rights blocks arguments calendar licences leftout outdated heirs overdue belated hosting scripts
 computes = tt
