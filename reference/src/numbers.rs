@@ -111,7 +111,7 @@ pub const MIN_SCRATCH: usize = 16;
 pub const TOP: u32 = 2_147_483_648;
 /// The largest 32-bit number: "the money total is at most 4,294,967,295"
 pub const MAX_WORD: u32 = 4_294_967_295;
-/// 02, CR 11: "A derive_cap line without a limit now gives moneyword 0."
+/// The limit of a derive_cap line that has none; 02, CR 11: "A derive_cap line without a limit now gives moneyword 0."
 pub const DEFAULT_LIMIT: u32 = 0;
 /// 02, CR 9: "The store holds a day, 0 to 65,535"; "A master's is 65,535", of last days
 pub const MAX_DAY: u32 = 65_535;

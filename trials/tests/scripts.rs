@@ -277,6 +277,11 @@ fn generated_scripts() {
 const LIMIT: usize = 10;
 const WITHOUT_LIMIT: usize = 12;
 
+/// A line of derive_cap that has no limit, with this one in its place.
+fn with_limit(line: &[u32], limit: u32) -> Vec<u32> {
+    [&line[..LIMIT], &[limit], &line[LIMIT..]].concat()
+}
+
 /// 02, CR 11: "A derive_cap line without a limit now gives moneyword 0", and "Nothing else about the
 /// tree changes": with the largest limit the answer is the same, and so is the store but for the
 /// child's moneyword, which is then the parent's. With the limit 0 the line is the same call.
@@ -293,11 +298,11 @@ fn lines_without_a_limit() {
                 let mut line = call_numbers(&call);
                 line.drain(LIMIT..LIMIT + 2);
                 assert_eq!(line.len(), WITHOUT_LIMIT);
-                let with = |limit| [&line[..LIMIT], &[limit], &line[LIMIT..]].concat();
-                assert_eq!(read_call(&line), read_call(&with(0)));
+                assert_eq!(read_call(&line), read_call(&with_limit(&line, 0)));
                 let (mut bare, mut whole) = (store.clone(), store.clone());
                 let answer = answer_line(&mut bare, Some(&line));
-                assert_eq!(answer_line(&mut whole, Some(&with(MAX_WORD))), answer);
+                let largest = with_limit(&line, MAX_WORD);
+                assert_eq!(answer_line(&mut whole, Some(&largest)), answer);
                 if answer[0] == DONE {
                     let parent = store.find(call.caller, key).expect("a parent");
                     let parents = store.moneyword(parent);
@@ -316,9 +321,9 @@ fn lines_without_a_limit() {
 /// The script with this limit in each line of derive_cap that has none.
 fn with_limits(text: &[u8], limit: u32) -> Vec<u8> {
     let lines = text.split(|byte| *byte == b'\n').map(|line| match read_numbers(line) {
-        Some(mut numbers) if numbers[0] == 5 && numbers.len() == WITHOUT_LIMIT => {
-            numbers.insert(LIMIT, limit);
-            numbers.iter().map(u32::to_string).collect::<Vec<_>>().join(" ").into_bytes()
+        Some(numbers) if numbers[0] == 5 && numbers.len() == WITHOUT_LIMIT => {
+            let whole = with_limit(&numbers, limit);
+            whole.iter().map(u32::to_string).collect::<Vec<_>>().join(" ").into_bytes()
         }
         _ => line.to_vec(),
     });

@@ -64,7 +64,7 @@ word = 4294967295
 abbrev pub half : ℕ
 half = 4294967296
 
--- 02, CR 11: "A derive_cap line without a limit now gives moneyword 0."
+-- the limit of a derive line that has none; 02, CR 11: "A derive_cap line without a limit now gives moneyword 0."
 abbrev pub defaultLimit : ℕ
 defaultLimit = 0
 

@@ -46,7 +46,7 @@ pub const TOP: u32 = 2147483648;
 // the largest 32-bit number: "the money total is at most 4,294,967,295"
 pub const MAX_WORD: u32 = 4294967295;
 
-// 02, CR 11: "A derive_cap line without a limit now gives moneyword 0."
+// the limit of a derive line that has none; 02, CR 11: "A derive_cap line without a limit now gives moneyword 0."
 pub const DEFAULT_LIMIT: u32 = 0;
 
 // 02, CR 9: "The store holds a day, 0 to 65,535"; "A day or a last day above 65,535 is 2."; of last days, "A master's is 65,535."
