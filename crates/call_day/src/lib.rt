@@ -1,4 +1,6 @@
 // 02, CR 9: "The host sets the day by call 17, which has no caller and no fee".
+#![tactic(auto)]
+
 ghost use Rattle.std.specs.Prelude.{ℕ, ◌≡◌, List, length};
 ghost use Rattle.layout.specs.Layout;
 ghost use Rattle.call_steps.specs.Replies.{Replies};

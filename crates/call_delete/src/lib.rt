@@ -1,5 +1,7 @@
 // "delete_cap: no more. The capability and all its descendants end. With a master the object ends too; its moneyword,
 // cash and box sums go to the house."
+#![tactic(auto)]
+
 ghost use Rattle.call_delete.specs.Runs.{DeleteAsks, MasterAsks, MasterEnds, Deletes};
 
 use call_ending::end::end_object;

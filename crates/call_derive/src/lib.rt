@@ -1,5 +1,7 @@
 // derive_cap after the fee and with the capability found: "12 p1 is taken in the object; 13 512 capabilities live"; else a
 // child of the capability is made and linked.
+#![tactic(auto)]
+
 ghost use Rattle.values.specs.Words.{password_of, window_of};
 ghost use Rattle.call_steps.specs.Replies.{Replies};
 ghost use Rattle.call_derive.specs.Runs.{DeriveAsks, derive_run};

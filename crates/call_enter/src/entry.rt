@@ -17,7 +17,7 @@ use values::fees::fee_of;
 use values::rights::Rights;
 
 // 0 or the refusal; the caller's slot, and that of the capability presented, 0 where the call presents none.
-#[derive(Drop)]
+#[derive(Clone, Copy)]
 pub struct Entered {
     pub code: u32,
     pub me: usize,

@@ -13,7 +13,7 @@ use values::rights::Rights;
 use values::window::Window;
 
 // A capability to be made: its object's slot, its parent's and its next sibling's, 0 for none.
-#[derive(Drop)]
+#[derive(Clone, Copy)]
 pub struct NewCap {
     pub object: u16,
     pub parent: u16,

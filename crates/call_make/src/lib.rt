@@ -1,5 +1,7 @@
 // make_obj after the fee: "12 the serial is taken on that volume; 13 64 objects or 512 capabilities live, or too few free
 // blocks"; else an object with its blocks and its master.
+#![tactic(auto)]
+
 ghost use Rattle.values.specs.Words.{password_of};
 ghost use Rattle.call_steps.specs.Request.{name_of};
 ghost use Rattle.call_steps.specs.Replies.{Replies};

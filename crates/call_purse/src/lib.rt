@@ -1,5 +1,7 @@
 // 01's withdraw and deposit after the fee, with the capability found: the two calls that turn moneywords into cash and
 // cash into moneywords.
+#![tactic(auto)]
+
 ghost use Rattle.std.specs.Prelude.{◌≡◌, List, ℕ, ◌≤◌, length};
 ghost use Rattle.rules.specs.Limit as Limit;
 ghost use Rattle.layout.specs.Layout as Layout;

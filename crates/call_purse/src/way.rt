@@ -4,7 +4,7 @@ ghost use Rattle.call_purse.specs.Climb.{stops, moves};
 
 use values::moneyword::Moneyword;
 
-#[derive(Drop)]
+#[derive(Clone, Copy)]
 pub enum Way {
     Out,
     Into,

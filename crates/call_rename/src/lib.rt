@@ -1,6 +1,8 @@
 // rename_obj after the fee and with the capability found: "11 not a master; 12 p1 is taken in the object, the old master's
 // own included. All capabilities end; a new master has the old one's moneyword, window and rights." It is put into the old
 // one's record.
+#![tactic(auto)]
+
 ghost use Rattle.values.specs.Words.{password_of};
 ghost use Rattle.call_rename.specs.Runs.{RenewAsks, Renews, RenameAsks, Renames};
 

@@ -1,4 +1,4 @@
-// Bytes from one slice to another, by the kit's copy.
+// Bytes from one slice to another, by the library's copy.
 ghost use Rattle.std.specs.Prelude.{◌+◌, ◌≤◌, length};
 ghost use Rattle.call_steps.specs.Copies.{Copied};
 
@@ -7,5 +7,5 @@ pub fn copy(src: &[u8], from: usize, dst: &mut [u8], to: usize, n: usize)
     requires { (from + n ≤ length src.now) × (to + n ≤ length dst.old) }
     ensures { Copied n src.now from dst.old to dst.new }
 {
-    bytes::copy(&src[from..from + n], &mut dst[to..to + n]);
+    dst[to..to + n].copy_from_slice(&src[from..from + n]);
 }

@@ -1,4 +1,6 @@
 // What all calls share: the request and the reply, and the steps from a request to the call's own part.
+#![tactic(auto)]
+
 pub mod copy;
 mod groups;
 pub mod numbers;

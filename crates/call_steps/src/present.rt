@@ -57,7 +57,7 @@ pub fn expired(links: &[u16], k: usize) -> bool
 }
 
 // 0, or why a right is not granted; the slot of the capability presented, 0 if there is none.
-#[derive(Drop)]
+#[derive(Clone, Copy)]
 pub struct Admitted {
     pub code: u32,
     pub slot: usize,

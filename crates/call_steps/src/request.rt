@@ -12,14 +12,14 @@ use values::number::{READ, WITHDRAW, WRITE};
 use values::window::Window;
 
 // An object's name: its volume and a serial.
-#[derive(Drop)]
+#[derive(Clone, Copy)]
 pub struct Name {
     pub volume: u32,
     pub serial: u32,
 }
 
 // A capability as it is presented and handed back.
-#[derive(Drop)]
+#[derive(Clone, Copy)]
 pub struct Capability {
     pub name: Name,
     pub password: [u32; 2],
@@ -42,7 +42,7 @@ impl Capability {
 
 // Every call's arguments by their names; a call looks at its own alone. Pairs stand first, so that each lies in one
 // 8-byte word, and is read as such from where it was just stored.
-#[derive(Drop)]
+#[derive(Clone, Copy)]
 pub struct Request {
     pub caller: Name,
     pub presented: Capability,
@@ -117,7 +117,7 @@ impl Request {
 
 // 0 or the refusal, and the results; `count` bytes stand at the buffer's front. Numbers that are handed over side by side
 // stand apart here: read as one, they would wait for the stores of both.
-#[derive(Drop)]
+#[derive(Clone, Copy)]
 pub struct Reply {
     pub count: u32,
     pub length: u32,

@@ -1,4 +1,6 @@
 // The fields of each capability, by slot: rights, a window and a last day, which lie in its parent's or are a master's.
+#![tactic(auto)]
+
 ghost use Rattle.std.specs.Prelude.{◌≡◌, length};
 ghost use Rattle.layout.specs.Layout;
 ghost use Rattle.layout.specs.Decides.{Decides};

@@ -1,4 +1,6 @@
 // The money total: all cash, all masters' moneywords, all sums in boxes, and the house.
+#![tactic(auto)]
+
 ghost use Rattle.std.specs.Prelude.{◌≡◌, List, ℕ, ◌≤◌};
 ghost use Rattle.rules.specs.Limit;
 ghost use Rattle.layout.specs.View.{view};

@@ -1,5 +1,7 @@
 // The check of the objects of a store: the fields of each, and that their names differ. One pass does both, since the
 // processor mispredicts a test whether a slot is free where living and free slots are mixed.
+#![tactic(auto)]
+
 ghost use Rattle.rules.specs.Limit;
 ghost use Rattle.layout.specs.WellFormed.{Sized};
 ghost use Rattle.layout.specs.Decides.{Decides};

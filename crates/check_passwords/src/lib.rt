@@ -1,5 +1,7 @@
 // No two capabilities of an object have the same p1. A hash table tells them apart: slots are entered from the last down,
 // and each is compared only with those that were entered at the same place before it.
+#![tactic(auto)]
+
 ghost use Rattle.std.specs.Prelude.{◌≡◌, ◌≤◌, ◌<◌};
 ghost use Rattle.rules.specs.Limit;
 ghost use Rattle.layout.specs.Decides.{Decides};

@@ -1,6 +1,8 @@
 // One pass over the capabilities: the fields of each, its p1 in the hash table, and the masters' part of the total.
 // It goes by a list of the living slots, made first without a branch on what lives: where living and free slots are
 // mixed, the processor mispredicts such a branch half of the time.
+#![tactic(auto)]
+
 ghost use Rattle.std.specs.Prelude.{◌≡◌, ◌+◌, ◌≤◌, length};
 ghost use Rattle.rules.specs.Limit;
 ghost use Rattle.layout.specs.Sizes.{LinksWords};
@@ -18,7 +20,7 @@ use layout::rows::link;
 use values::limit::MAX_CAPS;
 
 // Whether all capabilities fit and no two of an object have the same p1; if so, the moneywords of the masters.
-#[derive(Drop)]
+#[derive(Clone, Copy)]
 pub struct Scan {
     pub fits: bool,
     pub masters: u64,

@@ -1,4 +1,6 @@
 // A call, and a step on a well-formed store, by rows of numbers: the functions for C hand on to these.
+#![tactic(auto)]
+
 ghost use Rattle.layout.specs.WellFormed.{WellFormed};
 ghost use Rattle.kernel_step.specs.Slices.{slices};
 ghost use Rattle.export_calls.specs.Exported.{Exported};

@@ -1,4 +1,6 @@
 // A pick by rows of numbers, on any store and on a well-formed one: the functions for C hand on to these.
+#![tactic(auto)]
+
 ghost use Rattle.std.specs.Prelude.{[]};
 ghost use Rattle.layout.specs.WellFormed.{WellFormed};
 ghost use Rattle.kernel_step.specs.Slices.{slices};

@@ -1,4 +1,6 @@
 // A write and a read by hook, by rows of numbers: the functions for C hand on to these.
+#![tactic(auto)]
+
 ghost use Rattle.std.specs.Prelude.{[]};
 ghost use Rattle.call_steps.specs.Request.{read_request, write_request};
 ghost use Rattle.kernel_step.specs.Slices.{slices};

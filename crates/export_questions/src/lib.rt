@@ -1,4 +1,6 @@
 // The free questions by rows of numbers: the functions for C hand on to these.
+#![tactic(auto)]
+
 ghost use Rattle.export_questions.specs.Told.{WindowTold, CountTold, LendTold};
 
 use call_steps::numbers::{capability_at, name_at};

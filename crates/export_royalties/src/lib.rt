@@ -1,4 +1,6 @@
 // A bill by rows of numbers: the function for C hands on to this.
+#![tactic(auto)]
+
 ghost use Rattle.std.specs.Prelude.{[]};
 ghost use Rattle.kernel_step.specs.Slices.{slices};
 ghost use Rattle.export_royalties.specs.Exported.{Exported};

@@ -1,5 +1,7 @@
 // The script program: a script on standard input, its output on standard output. 01, "A script and its output".
 // Here are the buffers, the reading and the writing; what becomes of what is read is `script_driver`'s.
+#![tactic(auto)]
+
 ghost use Rattle.script_driver.specs.Stores.{Formed};
 ghost use Rattle.script_driver.specs.Parts.{store};
 ghost use Rattle.hall.specs.Runs.{Placed, Roomy, Stands, FeedsAll, AllFed, Turned, Begins};
@@ -9,13 +11,14 @@ use layout::{BYTES, LINKS, WORDS};
 use script_driver::line::HELD;
 use script_driver::{ROOM, Run, feed, finish};
 use script_text::lines::NUMBERS;
+use std::io::{Read, Stdin, Stdout, Write};
 use values::limit::{MIN_BUFFER, MIN_SCRATCH};
 
 // So many turns, of 65,536 bytes at most, that no run uses them up, and that their lines can be counted in 64 bits.
 const TURNS: u64 = 140737488355328;
 
 // Between two turns.
-#[derive(Drop)]
+#[derive(Clone, Copy)]
 struct Stand {
     pub run: Run,
     // More is to be read: the input has not ended, and no write failed.
@@ -23,7 +26,7 @@ struct Stand {
 }
 
 // Writes out what the buffer holds, where an answer and the end may not fit after it. A failed write ends the run.
-fn make_room(out: &[u8], stand: Stand) -> Stand
+fn make_room(mut stdout: Stdout, out: &[u8], stand: Stand) -> Stand
     requires { Placed out.now stand }
     ensures { Roomy out.now stand result }
 {
@@ -40,7 +43,7 @@ fn make_room(out: &[u8], stand: Stand) -> Stand
     };
     Stand {
         run: emptied,
-        going: io::write_all(1, &out[..at]),
+        going: stdout.write_all(&out[..at]).is_ok(),
     }
 }
 
@@ -55,6 +58,7 @@ fn feed_all(
     scratch: &mut [u16],
     held: &mut [u8],
     window: &[u8],
+    stdout: Stdout,
     out: &mut [u8],
     begun: Stand,
 ) -> Stand
@@ -67,7 +71,7 @@ fn feed_all(
     let mut stand = begun;
     let mut from = 0;
     while from < window.len() && stand.going {
-        let ready = make_room(out, stand);
+        let ready = make_room(stdout, out, stand);
         let run = ready.run;
         let fed = feed(
             bytes,
@@ -102,19 +106,20 @@ fn end(
     buffer: &mut [u8],
     scratch: &mut [u16],
     held: &[u8],
+    mut stdout: Stdout,
     out: &mut [u8],
     stand: Stand,
 )
     requires { Stands (store bytes.old links.old words.old) held.now numbers.old text.old buffer.old scratch.old out.old stand }
     ensures { Formed (store bytes.new links.new words.new) }
 {
-    let ready = make_room(out, stand);
+    let ready = make_room(stdout, out, stand);
     if ready.going {
         let run = ready.run;
         let at = finish(
             bytes, links, words, numbers, text, buffer, scratch, held, out, run,
         );
-        io::write_all(1, &out[..at]);
+        let _ = stdout.write_all(&out[..at]);
     }
 }
 
@@ -128,7 +133,9 @@ fn turn(
     buffer: &mut [u8],
     scratch: &mut [u16],
     held: &mut [u8],
+    mut stdin: Stdin,
     input: &mut [u8],
+    stdout: Stdout,
     out: &mut [u8],
     stand: Stand,
 ) -> Stand
@@ -138,8 +145,7 @@ fn turn(
         (store bytes.new links.new words.new) held.new
         numbers.new text.new buffer.new scratch.new input.old input.new out.new stand result }
 {
-    let got = libc::read(0, input);
-    let n = io::count(got, input);
+    let n = stdin.read(input).unwrap_or(0);
     if 0 < n {
         return feed_all(
             bytes,
@@ -151,12 +157,13 @@ fn turn(
             scratch,
             held,
             &input[..n],
+            stdout,
             out,
             stand,
         );
     }
     end(
-        bytes, links, words, numbers, text, buffer, scratch, held, out, stand,
+        bytes, links, words, numbers, text, buffer, scratch, held, stdout, out, stand,
     );
     let run = stand.run;
     Stand { run, going: false }
@@ -172,7 +179,9 @@ fn play_all(
     buffer: &mut [u8],
     scratch: &mut [u16],
     held: &mut [u8],
+    stdin: Stdin,
     input: &mut [u8],
+    stdout: Stdout,
     out: &mut [u8],
 )
     requires { Begins (store bytes.old links.old words.old) held.old numbers.old text.old buffer.old scratch.old
@@ -191,13 +200,14 @@ fn play_all(
     let mut turns = TURNS;
     while turns > 0 && stand.going {
         stand = turn(
-            bytes, links, words, numbers, text, buffer, scratch, held, input, out, stand,
+            bytes, links, words, numbers, text, buffer, scratch, held, stdin, input, stdout, out,
+            stand,
         );
         turns -= 1;
     }
 }
 
-fn main() {
+fn main(rt: HostRuntime) {
     let mut bytes = [0u8; BYTES];
     let mut links = [0u16; LINKS];
     let mut words = [0u32; WORDS];
@@ -206,8 +216,8 @@ fn main() {
     let mut buffer = [0u8; MIN_BUFFER];
     let mut scratch = [0u16; MIN_SCRATCH];
     let mut held = [0u8; HELD];
-    let mut input = io::large_buffer();
-    let mut out = io::large_buffer();
+    let mut input = [0u8; 65536];
+    let mut out = [0u8; 65536];
     // a store with no money, until line one says what it holds
     fresh(0, [0, 0], &mut bytes, &mut links, &mut words);
     play_all(
@@ -219,7 +229,9 @@ fn main() {
         &mut buffer,
         &mut scratch,
         &mut held,
+        rt.stdin(),
         &mut input,
+        rt.stdout(),
         &mut out,
     );
 }

@@ -1,4 +1,6 @@
 // A call on slices of any length and content: the check of the store, then the step of the kernel.
+#![tactic(auto)]
+
 ghost use Rattle.kernel_step.specs.Slices.{slices};
 ghost use Rattle.kernel_call.specs.Calls.{Calls};
 

@@ -1,4 +1,6 @@
 // 01, "A store is well formed when": the check of three slices of any length and content.
+#![tactic(auto)]
+
 ghost use Rattle.layout.specs.WellFormed.{WellFormed};
 ghost use Rattle.layout.specs.Decides.{Decides};
 

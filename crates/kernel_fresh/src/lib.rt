@@ -1,4 +1,6 @@
 // 01, "Fresh store": makes one in three lent slices, whatever they held.
+#![tactic(auto)]
+
 mod chain;
 mod fill;
 

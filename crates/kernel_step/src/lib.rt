@@ -1,5 +1,7 @@
 // A call on a store that is well formed. A process's: refusals 2, 3 and 4, the fee, 5, 19 and 6, and the call chosen by its
 // number. The host's: call 17.
+#![tactic(auto)]
+
 ghost use Rattle.layout.specs.WellFormed.{WellFormed};
 ghost use Rattle.kernel_step.specs.Slices.{slices};
 ghost use Rattle.kernel_step.specs.Steps.{Stepped};

@@ -1,6 +1,8 @@
 // Where each field stands in the three slices: the only numbers of the layout on this side, as in specs/Layout.antt.
 // A field has a row of cells, one for each slot; the cell of slot 0 is no record's. Objects have slots 1 to 64,
 // capabilities and blocks 1 to 512. Message m, 0 to 3, of object o has slot 4 o + m. docs/LAYOUT.md has the table.
+#![tactic(auto)]
+
 ghost use Rattle.std.specs.Prelude.{◌≡◌};
 
 pub mod process;

@@ -1,4 +1,6 @@
 // The loom drive of 02 (CR 3), a product above the store: it uses the store only by its calls and by the window question.
+#![tactic(auto)]
+
 ghost use Rattle.std.specs.Prelude.{[]};
 ghost use Rattle.layout.specs.WellFormed.{WellFormed};
 ghost use Rattle.kernel_step.specs.Slices.{slices};

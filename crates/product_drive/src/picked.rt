@@ -8,7 +8,7 @@ use call_steps::request::Reply;
 use values::code::DONE;
 
 // 0 or the refusal; the take-up step; the place for the next pick; how many bytes were read to the buffer's front.
-#[derive(Drop)]
+#[derive(Clone, Copy)]
 pub struct Picked {
     pub code: u32,
     pub step: u32,

@@ -1,5 +1,7 @@
 // Patterns by hook (02, CR 5), a product above the store: a write and a read whose bytes are turned on their way. They use the
 // store only by its calls.
+#![tactic(auto)]
+
 ghost use Rattle.std.specs.Prelude.{[]};
 ghost use Rattle.call_steps.specs.Request.{read_request, write_request};
 ghost use Rattle.kernel_step.specs.Slices.{slices};
@@ -34,7 +36,8 @@ pub fn write_by_hook(
     let mut scratch: [u16; 0] = [];
     if text.len() <= MAX_PATTERN {
         let mut pattern = [0u8; MAX_PATTERN];
-        let n = bytes::copy(text, &mut pattern);
+        let n = text.len();
+        pattern[..n].copy_from_slice(text);
         turn_front(&mut pattern, n);
         return call(
             bytes,

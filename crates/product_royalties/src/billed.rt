@@ -6,7 +6,7 @@ use call_steps::request::Reply;
 use values::code::DONE;
 
 // 0 or the refusal; the count for the next bill; what was taken.
-#[derive(Drop)]
+#[derive(Clone, Copy)]
 pub struct Billed {
     pub code: u32,
     pub count: u32,

@@ -1,5 +1,7 @@
 // Royalties by the pick (02, CR 7), a product above the store: a bill for picks, taken by a withdraw. It uses the store only
 // by its calls.
+#![tactic(auto)]
+
 ghost use Rattle.std.specs.Prelude.{[]};
 ghost use Rattle.kernel_step.specs.Slices.{slices};
 ghost use Rattle.product_royalties.specs.Bills.{Bills};

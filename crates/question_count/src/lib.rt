@@ -1,6 +1,8 @@
 // 02, CR 8, the free question: how many passwords, "presented by a named process for one object and one right, would get past
 // 5 and 6", and since CR 9 past 19. There are as many as capabilities of the object that are not expired and hold the right, and
 // these are counted. The slices are only read.
+#![tactic(auto)]
+
 ghost use Rattle.std.specs.Prelude.{◌≡◌, ◌≢◌, List, ℕ, length};
 ghost use Rattle.rules.specs.Slots.{one};
 ghost use Rattle.rules.specs.Questions.{uncounted, passwords_asked};
@@ -24,7 +26,7 @@ use values::limit::MAX_CAPS;
 use values::rights::Rights;
 
 // 0 or the refusal, and the number; a refusal's is 0.
-#[derive(Drop)]
+#[derive(Clone, Copy)]
 pub struct Counted {
     pub code: u32,
     pub count: u32,

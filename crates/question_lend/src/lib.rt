@@ -1,6 +1,8 @@
 // 02, CR 10, the free question: "the place, counted from 1, of the first one in its list from which some derive_cap gives a
 // capability with exactly those rights, window and last day and the sum as moneyword". Whether some does is decided by comparing these
 // and by a climb. The slices are only read.
+#![tactic(auto)]
+
 ghost use Rattle.std.specs.Prelude.{◌≡◌, true, List, ℕ, ◌≤◌, leb, length};
 ghost use Rattle.rules.specs.Limit as Limit;
 ghost use Rattle.rules.specs.Questions.{entries, entry, wish_fits, unlent, LendAsked};
@@ -33,7 +35,7 @@ use values::rights::Rights;
 use values::window::Window;
 
 // What is to be lent.
-#[derive(Drop)]
+#[derive(Clone, Copy)]
 pub struct Wish {
     pub rights: u32,
     pub window: Window,
@@ -42,7 +44,7 @@ pub struct Wish {
 }
 
 // 0 or the refusal, and the place; a refusal's is 0.
-#[derive(Drop)]
+#[derive(Clone, Copy)]
 pub struct Lent {
     pub code: u32,
     pub place: u32,

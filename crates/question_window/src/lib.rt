@@ -1,4 +1,6 @@
 // 02, CR 3, the free question: "the window of a capability presented by a caller, under READ". The slices are only read.
+#![tactic(auto)]
+
 ghost use Rattle.std.specs.Prelude.{◌≡◌};
 ghost use Rattle.rules.specs.Questions.{unwindowed, window_asked};
 ghost use Rattle.layout.specs.View.{view};
@@ -17,7 +19,7 @@ use values::rights::Rights;
 use values::window::Window;
 
 // 0 or the refusal, and the window; a refusal's is 0 and 0.
-#[derive(Drop)]
+#[derive(Clone, Copy)]
 pub struct Windowed {
     pub code: u32,
     pub window: Window,

@@ -1,3 +1,5 @@
 // Answers as lines: 01, "A script and its output".
+#![tactic(auto)]
+
 pub mod answer;
 pub mod ends;

@@ -1,5 +1,7 @@
 // The driver of a script: 01, "A script and its output". It reads and writes nothing: it is handed a window of the input and room for
 // output, plays the lines that end there, and says how far it came in both. What it does is fixed by what came in.
+#![tactic(auto)]
+
 ghost use Rattle.script_play.specs.Plays.{Working};
 ghost use Rattle.script_driver.specs.Contract.{FeedAsks, Feeding, FinishAsks, Finishing};
 ghost use Rattle.script_driver.specs.Parts.{store, run_of, fed_of, EndAsks, EndPut};
@@ -15,7 +17,7 @@ use script_text::lines::line_end;
 pub const ROOM: usize = 2916;
 
 // Where a run stands.
-#[derive(Drop)]
+#[derive(Clone, Copy)]
 pub struct Run {
     // The next line's number, "counted from 1" after line one; 0 before line one.
     pub number: u64,
@@ -28,7 +30,7 @@ pub struct Run {
 }
 
 // How far a turn came: the run after it, and the bytes of the window that were taken.
-#[derive(Drop)]
+#[derive(Clone, Copy)]
 pub struct Fed {
     pub run: Run,
     pub taken: usize,

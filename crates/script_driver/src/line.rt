@@ -26,7 +26,7 @@ pub(crate) fn hold(held: &mut [u8], count: usize, part: &[u8]) -> usize
     ensures { Holds held.old count part.now held.new result }
 {
     let n = fewer(HELD - count, part.len());
-    bytes::copy(&part[..n], &mut held[count..]);
+    held[count..count + n].copy_from_slice(&part[..n]);
     count + n
 }
 

@@ -4,7 +4,7 @@ ghost use Rattle.script_lines.specs.First.{FirstIs};
 use crate::fits::nth;
 
 // "Line one is supply, p1, p2".
-#[derive(Drop)]
+#[derive(Clone, Copy)]
 pub struct First {
     pub ok: bool,
     pub supply: u32,

@@ -18,5 +18,8 @@ pub fn line_end(buf: &[u8], from: usize, to: usize) -> usize
     requires { (from ≤ to) × (to ≤ length buf.now) }
     ensures { EndsLine buf.now from to result }
 {
-    bytes::scan::find(buf, from, to, 10)
+    match memchr::memchr(10, &buf[from..to]) {
+        Some(i) => from + i,
+        None => to,
+    }
 }

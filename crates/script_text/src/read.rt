@@ -8,7 +8,7 @@ ghost use Rattle.script_text.specs.Scan.{is_digit, extends as Scan·extends};
 use crate::lines::{LARGEST, LONGEST};
 
 // A number, and the place after it.
-#[derive(Drop)]
+#[derive(Clone, Copy)]
 struct Number {
     pub ok: bool,
     pub value: u32,
@@ -16,7 +16,7 @@ struct Number {
 }
 
 // Whether a line says numbers, and how many.
-#[derive(Drop)]
+#[derive(Clone, Copy)]
 struct Read {
     pub ok: bool,
     pub count: usize,

@@ -8,6 +8,7 @@ use script_answers::answer::ANSWER;
 use script_driver::{Run, feed};
 use script_text::lines::line_end;
 use sheet_draw::ended::{NOTED, note_all, put_ending};
+use std::io::Stdout;
 
 // Byte i of a line of which `count` bytes are held, and the window is the rest; 0 where it has none.
 fn byte_of(held: &[u8], count: usize, window: &[u8], i: usize) -> u8 {
@@ -51,6 +52,7 @@ fn put_after(
     links: &[u16],
     words: &[u32],
     before: &[u32],
+    stdout: Stdout,
     out: &mut [u8],
     at: usize,
     number: u64,
@@ -61,6 +63,7 @@ fn put_after(
             links,
             words,
             before,
+            stdout,
             out,
             at,
             number,
@@ -72,6 +75,7 @@ fn put_after(
             links,
             words,
             before,
+            stdout,
             out,
             at,
             number,
@@ -92,6 +96,7 @@ fn one_line(
     scratch: &mut [u16],
     held: &mut [u8],
     window: &[u8],
+    stdout: Stdout,
     out: &mut [u8],
     stand: Stand,
 ) -> Stand
@@ -127,7 +132,9 @@ fn one_line(
     let next = fed.run;
     Stand {
         run: next,
-        at: put_after(links, words, &before, out, stand.at, run.number, call),
+        at: put_after(
+            links, words, &before, stdout, out, stand.at, run.number, call,
+        ),
     }
 }
 
@@ -152,6 +159,7 @@ pub fn play_window(
     scratch: &mut [u16],
     held: &mut [u8],
     window: &[u8],
+    stdout: Stdout,
     out: &mut [u8],
     begun: Stand,
 ) -> Stand
@@ -175,6 +183,7 @@ pub fn play_window(
             scratch,
             held,
             &window[from..to],
+            stdout,
             out,
             stand,
         );

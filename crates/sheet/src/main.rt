@@ -1,5 +1,7 @@
 // The acceptance sheet: a script on standard input is run on the store, and what became of the capabilities is drawn as
 // text for a person: what each done delete or rename ended, then each object with its tree.
+#![tactic(auto)]
+
 ghost use Rattle.std.specs.Prelude.{◌+◌, ◌≤◌, length};
 ghost use Rattle.script_driver.specs.Parts.{store};
 ghost use Rattle.sheet.specs.Runs.{Begins};
@@ -16,6 +18,7 @@ use script_text::lines::NUMBERS;
 use sheet_draw::draw::put_objects;
 use sheet_draw::output::{put, write_out};
 use state::Stand;
+use std::io::{Read, Stdin, Stdout};
 use values::limit::{MIN_BUFFER, MIN_SCRATCH};
 
 // So many turns, of 65,536 bytes at most, that no run uses them up, and that their lines can be counted in 64 bits.
@@ -55,7 +58,9 @@ fn play_all(
     buffer: &mut [u8],
     scratch: &mut [u16],
     held: &mut [u8],
+    mut stdin: Stdin,
     input: &mut [u8],
+    stdout: Stdout,
     out: &mut [u8],
 ) -> Stand
     requires { Begins (store bytes.old links.old words.old) held.old numbers.old text.old buffer.old scratch.old
@@ -70,8 +75,7 @@ fn play_all(
     let mut stand = Stand { run: begun, at: 0 };
     let mut turns = TURNS;
     while turns > 0 {
-        let got = libc::read(0, input);
-        let came = io::count(got, input);
+        let came = stdin.read(input).unwrap_or(0);
         let run = stand.run;
         let n = give_end(input, came, run.count);
         stand = play_window(
@@ -84,6 +88,7 @@ fn play_all(
             scratch,
             held,
             &input[..n],
+            stdout,
             out,
             stand,
         );
@@ -93,15 +98,22 @@ fn play_all(
 }
 
 // "Line one .. if bad or absent, `0 2` is all it writes"; else the objects.
-fn put_end(bytes: &[u8], links: &[u16], words: &[u32], out: &mut [u8], stand: Stand) -> usize {
+fn put_end(
+    bytes: &[u8],
+    links: &[u16],
+    words: &[u32],
+    stdout: Stdout,
+    out: &mut [u8],
+    stand: Stand,
+) -> usize {
     let run = stand.run;
     if run.number == 0 {
-        return put(out, stand.at, b"0 2\n");
+        return put(stdout, out, stand.at, b"0 2\n");
     }
-    put_objects(bytes, links, words, out, stand.at)
+    put_objects(bytes, links, words, stdout, out, stand.at)
 }
 
-fn main() {
+fn main(rt: HostRuntime) {
     let mut bytes = [0u8; BYTES];
     let mut links = [0u16; LINKS];
     let mut words = [0u32; WORDS];
@@ -110,8 +122,8 @@ fn main() {
     let mut buffer = [0u8; MIN_BUFFER];
     let mut scratch = [0u16; MIN_SCRATCH];
     let mut held = [0u8; HELD];
-    let mut input = io::large_buffer();
-    let mut out = io::large_buffer();
+    let mut input = [0u8; 65536];
+    let mut out = [0u8; 65536];
     // a store with no money, until line one says what it holds
     fresh(0, [0, 0], &mut bytes, &mut links, &mut words);
     let stand = play_all(
@@ -123,9 +135,11 @@ fn main() {
         &mut buffer,
         &mut scratch,
         &mut held,
+        rt.stdin(),
         &mut input,
+        rt.stdout(),
         &mut out,
     );
-    let at = put_end(&bytes, &links, &words, &mut out, stand);
-    write_out(&out, at);
+    let at = put_end(&bytes, &links, &words, rt.stdout(), &mut out, stand);
+    write_out(rt.stdout(), &out, at);
 }

@@ -2,7 +2,7 @@
 use script_driver::Run;
 
 // Between two lines or two turns.
-#[derive(Drop)]
+#[derive(Clone, Copy)]
 pub struct Stand {
     pub run: Run,
     // How many places of the output buffer are taken.

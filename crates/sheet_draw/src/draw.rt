@@ -2,6 +2,7 @@
 use crate::fields::{byte, link, word};
 use crate::output::{put, put_byte, put_indent, put_number, put_two};
 use crate::rights::put_rights;
+use std::io::Stdout;
 use values::limit::{MAX_DAY, MAX_OBJECTS};
 
 // The last slot of an object.
@@ -11,7 +12,7 @@ const LAST_OBJECT: u16 = MAX_OBJECTS as u16;
 const NO_END: u16 = MAX_DAY as u16;
 
 // Where a walk through a tree stands.
-#[derive(Drop)]
+#[derive(Clone, Copy)]
 struct Walk {
     // The capability, 0 after the last one.
     pub cap: u16,
@@ -72,67 +73,103 @@ fn step_on(links: &[u16], walk: Walk) -> Walk {
 }
 
 // Whose parent: a capability is named by its p1, which is unique in its object.
-fn put_parent(links: &[u16], words: &[u32], out: &mut [u8], at: usize, cap: u16) -> usize {
+fn put_parent(
+    links: &[u16],
+    words: &[u32],
+    stdout: Stdout,
+    out: &mut [u8],
+    at: usize,
+    cap: u16,
+) -> usize {
     let parent = link(links, layout::PARENT, cap);
     if parent == 0 {
-        return put(out, at, b", master\n");
+        return put(stdout, out, at, b", master\n");
     }
-    let p = put(out, at, b", from ");
-    let q = put_number(out, p, word(words, layout::P1, parent));
-    put_byte(out, q, 10)
+    let p = put(stdout, out, at, b", from ");
+    let q = put_number(stdout, out, p, word(words, layout::P1, parent));
+    put_byte(stdout, out, q, 10)
 }
 
-fn put_window(words: &[u32], out: &mut [u8], at: usize, cap: u16) -> usize {
-    let p = put(out, at, b", window ");
-    let q = put_number(out, p, word(words, layout::START, cap));
-    let r = put(out, q, b" to ");
-    put_number(out, r, word(words, layout::END, cap))
+fn put_window(words: &[u32], stdout: Stdout, out: &mut [u8], at: usize, cap: u16) -> usize {
+    let p = put(stdout, out, at, b", window ");
+    let q = put_number(stdout, out, p, word(words, layout::START, cap));
+    let r = put(stdout, out, q, b" to ");
+    put_number(stdout, out, r, word(words, layout::END, cap))
 }
 
 // The last day, where it has an end, and whether the store's day is after it.
-fn put_last_day(links: &[u16], out: &mut [u8], at: usize, cap: u16) -> usize {
+fn put_last_day(links: &[u16], stdout: Stdout, out: &mut [u8], at: usize, cap: u16) -> usize {
     let last = link(links, layout::LAST_DAY, cap);
     if last == NO_END {
         return at;
     }
-    let p = put(out, at, b", last day ");
-    let q = put_number(out, p, last as u32);
+    let p = put(stdout, out, at, b", last day ");
+    let q = put_number(stdout, out, p, last as u32);
     if last < link(links, layout::DAY, 0) {
-        return put(out, q, b", expired");
+        return put(stdout, out, q, b", expired");
     }
     q
 }
 
 // What a capability may do: its rights, its window, its moneyword and its last day.
-fn put_powers(links: &[u16], words: &[u32], out: &mut [u8], at: usize, cap: u16) -> usize {
-    let a = put_rights(out, at, link(links, layout::RIGHTS, cap));
-    let b = put_window(words, out, a, cap);
-    let c = put(out, b, b", moneyword ");
-    let d = put_number(out, c, word(words, layout::MONEY, cap));
-    put_last_day(links, out, d, cap)
+fn put_powers(
+    links: &[u16],
+    words: &[u32],
+    stdout: Stdout,
+    out: &mut [u8],
+    at: usize,
+    cap: u16,
+) -> usize {
+    let a = put_rights(stdout, out, at, link(links, layout::RIGHTS, cap));
+    let b = put_window(words, stdout, out, a, cap);
+    let c = put(stdout, out, b, b", moneyword ");
+    let d = put_number(stdout, out, c, word(words, layout::MONEY, cap));
+    put_last_day(links, stdout, out, d, cap)
 }
 
 // A capability's line; its password comes first.
-fn put_cap(links: &[u16], words: &[u32], out: &mut [u8], at: usize, cap: u16, depth: u16) -> usize {
+fn put_cap(
+    links: &[u16],
+    words: &[u32],
+    stdout: Stdout,
+    out: &mut [u8],
+    at: usize,
+    cap: u16,
+    depth: u16,
+) -> usize {
     let p1 = word(words, layout::P1, cap);
     let p2 = word(words, layout::P2, cap);
-    let a = put_indent(out, at, depth);
-    let b = put_two(out, a, p1, p2);
-    let c = put_byte(out, b, 58);
-    let d = put_powers(links, words, out, c, cap);
-    put_parent(links, words, out, d, cap)
+    let a = put_indent(stdout, out, at, depth);
+    let b = put_two(stdout, out, a, p1, p2);
+    let c = put_byte(stdout, out, b, 58);
+    let d = put_powers(links, words, stdout, out, c, cap);
+    put_parent(links, words, stdout, out, d, cap)
 }
 
 // The line of a capability that is met for the first time.
-fn put_met(links: &[u16], words: &[u32], out: &mut [u8], at: usize, walk: Walk) -> usize {
+fn put_met(
+    links: &[u16],
+    words: &[u32],
+    stdout: Stdout,
+    out: &mut [u8],
+    at: usize,
+    walk: Walk,
+) -> usize {
     if walk.down {
-        return put_cap(links, words, out, at, walk.cap, walk.depth);
+        return put_cap(links, words, stdout, out, at, walk.cap, walk.depth);
     }
     at
 }
 
 // The tree below a master: each of at most 512 capabilities is met once, and come back to once at most.
-fn put_tree(links: &[u16], words: &[u32], out: &mut [u8], at: usize, master: u16) -> usize {
+fn put_tree(
+    links: &[u16],
+    words: &[u32],
+    stdout: Stdout,
+    out: &mut [u8],
+    at: usize,
+    master: u16,
+) -> usize {
     let mut p = at;
     let mut walk = Walk {
         cap: master,
@@ -144,7 +181,7 @@ fn put_tree(links: &[u16], words: &[u32], out: &mut [u8], at: usize, master: u16
         if walk.cap == 0 {
             return p;
         }
-        p = put_met(links, words, out, p, walk);
+        p = put_met(links, words, stdout, out, p, walk);
         walk = step_on(links, walk);
         turns -= 1;
     }
@@ -156,26 +193,34 @@ fn put_kind(
     bytes: &[u8],
     links: &[u16],
     words: &[u32],
+    stdout: Stdout,
     out: &mut [u8],
     at: usize,
     object: u16,
 ) -> usize {
     let size = link(links, layout::SIZE, object) as u32;
     if byte(bytes, layout::FLAG, object) == 0 {
-        let p = put(out, at, b": data, size ");
-        return put_number(out, p, size);
+        let p = put(stdout, out, at, b": data, size ");
+        return put_number(stdout, out, p, size);
     }
-    let p = put(out, at, b": process, size ");
-    let q = put_number(out, p, size);
-    let r = put(out, q, b", cash ");
-    put_number(out, r, word(words, layout::CASH, object))
+    let p = put(stdout, out, at, b": process, size ");
+    let q = put_number(stdout, out, p, size);
+    let r = put(stdout, out, q, b", cash ");
+    put_number(stdout, out, r, word(words, layout::CASH, object))
 }
 
 // An object's name: its volume and its serial.
-fn put_name(bytes: &[u8], links: &[u16], out: &mut [u8], at: usize, object: u16) -> usize {
+fn put_name(
+    bytes: &[u8],
+    links: &[u16],
+    stdout: Stdout,
+    out: &mut [u8],
+    at: usize,
+    object: u16,
+) -> usize {
     let volume = byte(bytes, layout::VOLUME, object) as u32;
     let serial = link(links, layout::SERIAL, object) as u32;
-    put_two(out, at, volume, serial)
+    put_two(stdout, out, at, volume, serial)
 }
 
 // The object in this slot, where one lives, and its tree.
@@ -183,6 +228,7 @@ fn put_object(
     bytes: &[u8],
     links: &[u16],
     words: &[u32],
+    stdout: Stdout,
     out: &mut [u8],
     at: usize,
     object: u16,
@@ -191,19 +237,26 @@ fn put_object(
     if master == 0 {
         return at;
     }
-    let a = put(out, at, b"object ");
-    let b = put_name(bytes, links, out, a, object);
-    let c = put_kind(bytes, links, words, out, b, object);
-    let d = put_byte(out, c, 10);
-    put_tree(links, words, out, d, master)
+    let a = put(stdout, out, at, b"object ");
+    let b = put_name(bytes, links, stdout, out, a, object);
+    let c = put_kind(bytes, links, words, stdout, out, b, object);
+    let d = put_byte(stdout, out, c, 10);
+    put_tree(links, words, stdout, out, d, master)
 }
 
 // All objects, from the last slot down, as a fresh store hands them out.
-pub fn put_objects(bytes: &[u8], links: &[u16], words: &[u32], out: &mut [u8], at: usize) -> usize {
+pub fn put_objects(
+    bytes: &[u8],
+    links: &[u16],
+    words: &[u32],
+    stdout: Stdout,
+    out: &mut [u8],
+    at: usize,
+) -> usize {
     let mut p = at;
     let mut object: u16 = LAST_OBJECT;
     while 0 < object {
-        p = put_object(bytes, links, words, out, p, object);
+        p = put_object(bytes, links, words, stdout, out, p, object);
         object -= 1;
     }
     p

@@ -2,6 +2,7 @@
 // one's slot: its password is another.
 use crate::fields::{byte, link, set_word, word};
 use crate::output::{put, put_byte, put_long, put_two};
+use std::io::Stdout;
 use values::limit::MAX_CAPS;
 
 // The last slot of a capability.
@@ -68,38 +69,46 @@ fn any_ended(links: &[u16], words: &[u32], before: &[u32]) -> bool {
 }
 
 // An ended capability's line: volume, serial, p1, p2.
-fn put_noted(before: &[u32], out: &mut [u8], at: usize, cap: u16) -> usize {
+fn put_noted(before: &[u32], stdout: Stdout, out: &mut [u8], at: usize, cap: u16) -> usize {
     let volume = word(before, VOLUME, cap);
     let serial = word(before, SERIAL, cap);
     let p1 = word(before, P1, cap);
     let p2 = word(before, P2, cap);
-    let a = put(out, at, b"    ");
-    let b = put_two(out, a, volume, serial);
-    let c = put_byte(out, b, 32);
-    let d = put_two(out, c, p1, p2);
-    put_byte(out, d, 10)
+    let a = put(stdout, out, at, b"    ");
+    let b = put_two(stdout, out, a, volume, serial);
+    let c = put_byte(stdout, out, b, 32);
+    let d = put_two(stdout, out, c, p1, p2);
+    put_byte(stdout, out, d, 10)
 }
 
 fn put_if_ended(
     links: &[u16],
     words: &[u32],
     before: &[u32],
+    stdout: Stdout,
     out: &mut [u8],
     at: usize,
     cap: u16,
 ) -> usize {
     if has_ended(links, words, before, cap) {
-        return put_noted(before, out, at, cap);
+        return put_noted(before, stdout, out, at, cap);
     }
     at
 }
 
 // All that have ended, from the last slot down, as a fresh store hands them out.
-fn put_all_ended(links: &[u16], words: &[u32], before: &[u32], out: &mut [u8], at: usize) -> usize {
+fn put_all_ended(
+    links: &[u16],
+    words: &[u32],
+    before: &[u32],
+    stdout: Stdout,
+    out: &mut [u8],
+    at: usize,
+) -> usize {
     let mut p = at;
     let mut cap: u16 = LAST_CAP;
     while 0 < cap {
-        p = put_if_ended(links, words, before, out, p, cap);
+        p = put_if_ended(links, words, before, stdout, out, p, cap);
         cap -= 1;
     }
     p
@@ -110,16 +119,17 @@ pub fn put_ending(
     links: &[u16],
     words: &[u32],
     before: &[u32],
+    stdout: Stdout,
     out: &mut [u8],
     at: usize,
     number: u64,
     call: &[u8],
 ) -> usize {
     if any_ended(links, words, before) {
-        let a = put(out, at, b"line ");
-        let b = put_long(out, a, number);
-        let c = put(out, b, call);
-        return put_all_ended(links, words, before, out, c);
+        let a = put(stdout, out, at, b"line ");
+        let b = put_long(stdout, out, a, number);
+        let c = put(stdout, out, b, call);
+        return put_all_ended(links, words, before, stdout, out, c);
     }
     at
 }

@@ -1,7 +1,7 @@
 // Cash pays fees. Nothing here turns it into a moneyword.
 ghost use Rattle.std.specs.Prelude.{◌≡◌, ◌-◌, ltb};
 
-#[derive(Drop)]
+#[derive(Clone, Copy)]
 pub struct Cash(pub u32);
 
 impl Cash {

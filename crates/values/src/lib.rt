@@ -1,5 +1,7 @@
 // The kinds of value in a store's words, and what is asked of them: rights, cash and moneywords, passwords and lockwords,
 // fees, windows, blocks; 01's limits and refusals, and numbers of calls, by name. Each function meets a definition of the rules for every input.
+#![tactic(auto)]
+
 pub mod blocks;
 pub mod cash;
 pub mod code;

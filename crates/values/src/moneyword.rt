@@ -4,7 +4,7 @@ ghost use Rattle.rules.specs.Limit;
 
 use crate::limit::MAX_WORD;
 
-#[derive(Drop)]
+#[derive(Clone, Copy)]
 pub struct Moneyword(pub u32);
 
 impl Moneyword {

@@ -2,7 +2,7 @@
 ghost use Rattle.std.specs.Prelude.{◌≡◌};
 ghost use Rattle.rules.specs.Rights.{is_right, has, both, asked, op};
 
-#[derive(Drop)]
+#[derive(Clone, Copy)]
 pub struct Rights(pub u16);
 
 impl Rights {
