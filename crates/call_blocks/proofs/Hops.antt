@@ -1,6 +1,6 @@
 -- The blocks of a chain by their places in it, and steps past its end.
 use Prim.Native.Nat.{ℕ, zero, suc, ◌≤◌, ◌<◌}
-use mathlib.Core.Path.{◌≡◌, refl, sym, ◌∙◌}
+use mathlib.Core.Path.{◌≡◌, refl, sym, subst, ◌∙◌}
 use mathlib.Core.Logic.{◌≢◌}
 use mathlib.Core.List.{List, [], ◌∷◌}
 use native.Mathlib.Omega.{arith}
@@ -28,7 +28,8 @@ module _ (next : ℕ → ℕ) where
   hop-in head (j ∷ xs) c zero p = rw c.0 (omega (arith, one_same j))
   hop-in head (j ∷ xs) c (suc i) p =
       let ih = hop-in (next j) xs c.3 i (omega arith) in
-      rw c.0 (omega (arith, ih))
+      let P : ℕ → Type 0 = λ h. 1 ≤ times (hop next (suc i) h) (j ∷ xs) in
+      subst P (sym c.0) (omega (arith, ih))
 
   -- and is one of the store's
   pub hop-block : (head : ℕ) (xs : List ℕ) → Chain 512 next head xs → (i : ℕ) → i < length xs

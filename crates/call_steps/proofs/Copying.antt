@@ -1,9 +1,9 @@
 -- A part of a slice copied into a part of another: stores one by one.
 use Prim.Native.Nat.{ℕ, zero, suc, ◌+◌, ◌-◌, ◌≤◌, ◌<◌}
 use mathlib.Core.Path.{◌≡◌, refl, sym, ap, ◌∙◌}
-use mathlib.Core.List.{List, ◌++◌, append_assoc, append-nil}
+use mathlib.Core.List.{List, ◌++◌, append_assoc}
 use native.Mathlib.Omega.{arith}
-use lib.ListN.{length, get_or, set, take, drop, length-take, length-drop, drop_of_length-le}
+use lib.ListN.{length, get_or, set, take, drop, length-drop}
 use lib.Seq.{paste, paste-zero, paste-suc, take_all, length-take-le, drop-drop, get_or-take, get_or-drop}
 use Rattle.call_steps.specs.Copies.{laid, copied, Copied}
 
@@ -31,12 +31,6 @@ module _ (src d : List ℕ) (from to n : ℕ) (room : from + n ≤ length src) (
   source-length : length source ≡ n
   source-length = length-take-le n (drop from src) (omega (arith, length-drop from src))
 
-  -- what came back of the part that was lent
-  back_is : take (length source) source ++ drop (length source) (take n (drop to d)) ≡ source
-  back_is =
-      rw (source-length, drop_of_length-le (take n (drop to d)) {i = n} (rw length-take (omega arith)))
-      (append-nil (take n source) ∙ take_all n source (omega (arith, source-length)))
-
   pasted-is : take to d ++ (source ++ drop n (drop to d)) ≡ laid (λ j. to + j) (λ j. get_or src (from + j) 0) n d
   pasted-is =
       ap (λ l. take to d ++ (l ++ drop n (drop to d))) (sym (take_all n source (omega (arith, source-length))))
@@ -48,15 +42,13 @@ module _ (src d : List ℕ) (from to n : ℕ) (room : from + n ≤ length src) (
 
 -- the parts lent are those from `from` to from + n and from `to` to to + n
 pub part-copied : (src d back : List ℕ) (from to n : ℕ) → from + n ≤ length src → to + n ≤ length d
-    → back ≡ take (length (take (from + n - from) (drop from src))) (take (from + n - from) (drop from src))
-    ++ drop (length (take (from + n - from) (drop from src))) (take (to + n - to) (drop to d))
+    → back ≡ take (from + n - from) (drop from src)
     → Copied n src from d to (take to d ++ (back ++ drop (to + n - to) (drop to d)))
 unfolding copied
 part-copied src d back from to n room fits e =
     let p : from + n - from ≡ n = omega arith in
     let q : to + n - to ≡ n = omega arith in
     record {
-      is = rw q (ap (λ l. take to d ++ (l ++ drop n (drop to d)))
-          ((rw (p, q) at e) ∙ back_is src d from to n room fits)
+      is = rw q (ap (λ l. take to d ++ (l ++ drop n (drop to d))) (rw p at e)
           ∙ pasted-is src d from to n room fits);
     }

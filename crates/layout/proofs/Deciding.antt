@@ -4,7 +4,7 @@ use mathlib.Core.Path.{◌≡◌, refl, sym, ap, ◌∙◌}
 use mathlib.Core.Logic.{◌≢◌}
 use mathlib.Core.Bool.{Bool, true, false, not, false≢true}
 use lib.Dec.{eqb, leb}
-use borrow.Author.Tests.{eqb-true, eq-eqb, eqb-false, ne_eqb, leb-true, le-leb, not-true, not-false}
+use borrow.Author.Tests.{eqb-true, eq-eqb, eqb-false, ne_eqb, leb-true, le-leb, not-true}
 use Rattle.layout.specs.Decides.{Decides}
 
 pub yes-it : {P : Type 0} → P → Decides P true
@@ -21,12 +21,9 @@ as-well d f g = record { sound = λ e. f (d.sound e); complete = λ q. d.complet
 pub refuted : {P : Type 0} {r : Bool} → Decides P r → r ≡ false → P → ⊥
 refuted d e p = false≢true (sym e ∙ d.complete p)
 
--- of an answer that is asked by its negation
-pub refused : {P : Type 0} {r : Bool} → Decides P r → not r ≡ true → P → ⊥
-refused {r = r} d e = refuted d (not-true r e)
-
-pub granted : {P : Type 0} {r : Bool} → Decides P r → not r ≡ false → P
-granted {r = r} d e = d.sound (not-false r e)
+-- what was answered yes holds
+pub granted : {P : Type 0} {r : Bool} → Decides P r → r ≡ true → P
+granted d e = d.sound e
 
 -- ---- tests on numbers
 

@@ -6,7 +6,7 @@ use mathlib.Core.List.{List, [], ◌++◌}
 use native.Mathlib.Omega.{arith}
 use lib.Dec.{eqb}
 use lib.ListN.{length, take, drop}
-use lib.Seq.{take_at, take-length}
+use lib.Seq.{take_at}
 use borrow.Author.Tests.{eqb-true}
 use Rattle.rules.specs.Code as Code
 use Rattle.rules.specs.Limit as Limit
@@ -90,13 +90,12 @@ front-none zero = refl
 front-none (suc n) = refl
 
 -- n bytes of text copied to the front of an array, and turned there
-front-copied : (n : ℕ) (text old copied now : List ℕ) → n ≡ length text
-    → copied ≡ take (length text) text ++ drop (length text) old → now ≡ turned_front n copied → take n now ≡ turned text
+front-copied : (n : ℕ) (text front rest now : List ℕ) → n ≡ length text
+    → front ≡ text → now ≡ turned_front n (front ++ rest) → take n now ≡ turned text
 unfolding turned_front
-front-copied n text old copied now m e f =
-    let text-is : take n copied ≡ text =
-    ap (take n) e ∙ take_at (take (length text) text) (drop (length text) old) n (ap length (take-length text) ∙ sym m)
-    ∙ take-length text in
+front-copied n text front rest now m e f =
+    let copied = front ++ rest in
+    let text-is : take n copied ≡ text = ap (λ l. take n (l ++ rest)) e ∙ take_at text rest n (sym m) in
     ap (take n) f
     ∙ take_at (turned (take n copied)) (drop n copied) n (size-stays (take n copied) ∙ ap length text-is ∙ sym m)
     ∙ ap turned text-is
@@ -115,13 +114,13 @@ module _ {p q : Request} (asks : p ≡ q) {r : Reply} {b l w b' l' w' : List ℕ
     leaves = λ i. slices b' l' w' (sym (front-none r.count) i) [];
   }
 
-  pub hooked-short : (old : List ℕ) {n : ℕ} {text copied now buffer scratch : List ℕ} → n ≡ length text
-      → copied ≡ take (length text) text ++ drop (length text) old → now ≡ turned_front n copied
+  pub hooked-short : (rest : List ℕ) {n : ℕ} {text front now buffer scratch : List ℕ} → n ≡ length text
+      → front ≡ text → now ≡ turned_front n (front ++ rest)
       → length buffer ≡ 0 → length scratch ≡ 0
       → Calls p (take n now) r (slices b l w [] []) (slices b' l' w' buffer scratch)
       → Hooked q text r (slices b l w [] []) (slices b' l' w' [] [])
-  hooked-short old {n} {text} {copied} {now} {buffer} {scratch} m e f nb ns c = hooked-in nb ns
-      (subst (λ x. Calls p x r (slices b l w [] []) (slices b' l' w' buffer scratch)) (front-copied n text old copied now m e f) c)
+  hooked-short rest {n} {text} {front} {now} {buffer} {scratch} m e f nb ns c = hooked-in nb ns
+      (subst (λ x. Calls p x r (slices b l w [] []) (slices b' l' w' buffer scratch)) (front-copied n text front rest now m e f) c)
 
   pub hooked-long : {text buffer scratch : List ℕ} → op q.number ≡ write → Limit.transfer < length text
       → length buffer ≡ 0 → length scratch ≡ 0

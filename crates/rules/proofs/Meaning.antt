@@ -15,7 +15,7 @@ use Rattle.rules.proofs.Tests.{by-eq, by_bool, pick_yes, pick-not, lives, not-li
 use Rattle.rules.proofs.Carried.{Maps, Alive, Along, carried, CarriedBy}
 use Rattle.rules.specs.Meaning.{object_at, object_seen, cap_at, cap_named, cap_seen, SameMeaning}
 use Rattle.rules.proofs.Onto.{sum-onto}
-use Rattle.rules.proofs.Moving.{none-object, none-cap, named_live, cap-live, owned}
+use Rattle.rules.proofs.Moving.{none-object, none-cap, named_live, cap-live}
 use Rattle.rules.proofs.Moving.{f-some, u-some, objects-onto, caps-onto, named-carried, cap-carried}
 
 empty : (l : List ℕ) → length l ≡ 0 → l ≡ []

@@ -2,7 +2,7 @@
 use Prim.Native.Nat.{ℕ, zero, suc, ◌+◌, ◌-◌, ◌≤◌, ◌<◌, min}
 use mathlib.Core.Path.{◌≡◌, refl, sym, ap, ◌∙◌, subst}
 use mathlib.Core.Bool.{Bool, true, false, not}
-use mathlib.Core.List.{List, [], ◌∷◌, ◌++◌, append_assoc, append-nil}
+use mathlib.Core.List.{List, [], ◌∷◌, ◌++◌, append-nil}
 use native.Mathlib.Omega.{arith}
 use native.Mathlib.Numerals.{add-one}
 use lib.Dec.{leb}
@@ -145,20 +145,16 @@ pub hold-room : (held part : List ℕ) (count n : ℕ) → length held ≡ HELD 
 hold-room held part count n size few e =
     omega (arith, length-take-le n part (omega arith), length-take-le (length held - count) (drop count held) (omega (arith, length-drop count held)))
 
-pub hold-is : (held part back z rest : List ℕ) (count n : ℕ) → length held ≡ HELD → count ≤ HELD → n ≡ min (HELD - count) (length part)
-    → back ≡ take (length (take n part)) (take n part) ++ z
-    → Holds held count part (take count held ++ (back ++ rest)) (count + n)
-hold-is held part back z rest count n size few e b =
+pub hold-is : (held part back rest : List ℕ) (count n : ℕ) → length held ≡ HELD → count ≤ HELD → n ≡ min (HELD - count) (length part)
+    → back ≡ take n part → Holds held count part (take count held ++ (back ++ rest)) (count + n)
+hold-is held part back rest count n size few e b =
     let p : List ℕ = take n part in
     let long : length (take count held) ≡ count = length-take-le count held (omega arith) in
-    let whole : take (length p) p ≡ p = take_all (length p) p (omega arith) in
     let short : length p ≡ n = length-take-le n part (omega arith) in
-    let front : back ++ rest ≡ p ++ (z ++ rest) =
-    ap (λ (l : List ℕ). l ++ rest) (b ∙ ap (λ (l : List ℕ). l ++ z) whole) ∙ append_assoc p z rest in
+    let front : back ++ rest ≡ p ++ rest = ap (λ (l : List ℕ). l ++ rest) b in
     record {
       is = take-over (take count held) (back ++ rest) (count + n) n (omega arith)
-          ∙ ap (λ (l : List ℕ). take count held ++ l)
-          (ap (take n) front ∙ take-over p (z ++ rest) n 0 (omega arith) ∙ append-nil p)
+          ∙ ap (λ (l : List ℕ). take count held ++ l) (ap (take n) front ∙ take-over p rest n 0 (omega arith) ∙ append-nil p)
           ∙ sym (cut-held held part count n size few e);
       few = omega arith;
     }

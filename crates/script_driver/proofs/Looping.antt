@@ -26,7 +26,7 @@ feeds-plain {M} {room} {n} {g} {g'} {l} {l'} {window = window} {out = out} empty
     counted same (subst (λ (x : List ℕ). Feeds M room g x window n out g' l') (ap cut (append-nil l) ∙ sym e) f)
 feeds-plain {M} {room} {n} {g} {g'} {l} {l'} {window = window} {out = out} (byte {b = b} {l = p} ne plain) h e f =
     let same : suc (length p + n) ≡ suc (length p) + n = omega arith in
-    counted same (held h ne (feeds-plain plain h (cut_twice (l ++ b ∷ []))
+    counted same (held h ne (feeds-plain {l = cut (l ++ b ∷ [])} plain h (cut_twice (l ++ b ∷ []))
     (subst (λ (x : List ℕ). Feeds M room g x window n out g' l')
     (sym (cut-more (l ++ b ∷ []) p ∙ ap cut (append_assoc l (b ∷ []) p))) f)))
 

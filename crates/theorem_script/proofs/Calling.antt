@@ -272,3 +272,4 @@ script-runs ls text ns nss (line {m = m} {l = l} {out = out} {text = rest} {ls =
     let same = means-same l d.numbers ns d.means g in
     opened rest others (means-fit g) three (subst (λ (x : List ℕ). Goes stores opening x out m) same d.goes)
     (lines_called on) nss gs
+script-runs _ text ns nss (Turns.over _) gs three = elim gs [ ]
