@@ -1,0 +1,10 @@
+-- `walk` meets its contract: whatever the chain from j on is found to be, so is the chain from head on.
+use Rattle.check_chains.specs.Parts.{chain_in, Any}
+use Rattle.check_chains.proofs.Marking.{Going, unvisited}
+use Rattle.check_chains.proofs.chain.walk.Given as goal
+
+abbrev pub invariant-loop-j : goal.invariant-loop-j
+invariant-loop-j l = Going l.n (chain_in l.n l.off l.links Any l.j) l.seen (chain_in l.n l.off l.links Any l.head) l.initial.seen
+
+abbrev pub decreases-loop-j : goal.decreases-loop-j
+decreases-loop-j l = unvisited l.seen

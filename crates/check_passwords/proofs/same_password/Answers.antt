@@ -1,0 +1,21 @@
+-- `same_password` tests each part of SamePassword.
+use native.Mathlib.Omega.{arith}
+use Rattle.layout.proofs.Deciding.{no-it, as-well, equal}
+use Rattle.check_passwords.proofs.same_password.Goals as goal
+
+pub returns-then-word : goal.returns-then-word
+returns-then-word c = no-it (λ h. omega (arith, c.if-word.true, h.p1))
+
+pub returns-then-owner-eq0 : goal.returns-then-owner-eq0
+returns-then-owner-eq0 c = no-it (λ h. h.here (omega arith))
+
+pub returns : goal.returns
+returns c =
+    as-well (equal c.link-owner.result c.link.result)
+    (λ e. record {
+      here = λ z. omega arith;
+      there = λ z. omega arith;
+      owner = omega arith;
+      p1 = omega arith;
+    })
+    (λ h. omega (arith, h.owner))

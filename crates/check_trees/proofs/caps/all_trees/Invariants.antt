@@ -1,0 +1,11 @@
+-- `all_trees` meets its contract: whatever the trees of the objects 1 to o are found to be, so are those of all.
+use Prim.Native.Nat.{◌≤◌}
+use Rattle.check_trees.specs.Parts.{trees_of_all}
+use Rattle.check_chains.proofs.Marking.{Going}
+use Rattle.check_trees.proofs.caps.all_trees.Given as goal
+
+abbrev pub invariant-loop-o : goal.invariant-loop-o
+invariant-loop-o l = (l.o ≤ 64) × Going 512 (trees_of_all l.links l.o) l.seen (trees_of_all l.links 64) l.initial.seen
+
+abbrev pub decreases-loop-o : goal.decreases-loop-o
+decreases-loop-o l = l.o
