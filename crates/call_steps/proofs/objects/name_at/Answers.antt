@@ -1,0 +1,8 @@
+-- `name_at` reads the volume and the serial.
+use Rattle.call_steps.proofs.Callers.{name-is}
+use Rattle.call_steps.proofs.objects.name_at.Goals as goal
+
+pub returns : goal.returns
+returns c w =
+    let a = c.args in
+    name-is a.bytes.now a.links.now w a.o c.requires.fact_2 c.requires.fact_3 _ c.wide8.ensures c.wide16.ensures

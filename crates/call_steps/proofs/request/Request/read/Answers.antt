@@ -1,0 +1,5 @@
+-- `read` is the request that the spec writes out.
+use Rattle.call_steps.proofs.request.Request.read.Goals as goal
+
+pub returns : goal.returns
+returns c = c.presenting.ensures
