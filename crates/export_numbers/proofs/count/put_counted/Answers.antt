@@ -1,0 +1,17 @@
+-- `put_counted` writes the numbers in their order.
+use native.Mathlib.Omega.{arith}
+use lib.ListN.{length-set}
+use borrow.Author.Rules.{rules}
+use Rattle.export_numbers.specs.Count.{numbers_of}
+use Rattle.export_numbers.proofs.Filled.{filled}
+use Rattle.export_numbers.proofs.count.put_counted.Goals as goal
+
+pub bounds-numbers-1 : goal.bounds-numbers-1
+bounds-numbers-1 c = simp length-set (omega arith)
+
+pub shape_of-numbers : goal.shape_of-numbers
+shape_of-numbers c = simp length-set
+
+pub returns : goal.returns
+unfolding numbers_of
+returns c = filled (numbers_of c.args.a) c.args.numbers.now c.requires

@@ -1,0 +1,18 @@
+-- `ask_lend` is refused by 1, or asks the rules' question.
+use borrow.Author.Rules.{rules}
+use Rattle.layout.proofs.Deciding.{refuted}
+use Rattle.layout.proofs.Plain.{plain}
+use Rattle.layout.proofs.Question.{asked-unsound, asked-formed}
+use Rattle.question_lend.proofs.Asking.{refused-one}
+use Rattle.question_lend.proofs.ask_lend.Goals as goal
+
+pub lend_of-requires : goal.lend_of-requires
+lend_of-requires c = plain (c.check.ensures.sound c.if-check.true)
+
+pub returns-then-check : goal.returns-then-check
+returns-then-check c = asked-formed (c.check.ensures.sound c.if-check.true) c.lend_of.ensures
+
+pub returns : goal.returns
+returns c =
+    let one = c.refuse.ensures in
+    asked-unsound (refuted c.check.ensures c.if-check.false) one (refused-one _ one)

@@ -1,0 +1,33 @@
+-- `answer_line` writes the line's number, the others and the end.
+use native.Mathlib.Omega.{arith}
+use Rattle.script_text.proofs.Numerals.{long-length}
+use Rattle.script_answers.proofs.Gathering.{line-pushed}
+use borrow.Author.Rules.{rules}
+use Rattle.script_answers.proofs.answer.answer_line.Goals as goal
+
+pub put_digits-p-requires : goal.put_digits-p-requires
+put_digits-p-requires c = omega (arith, long-length c.args.line (omega arith))
+
+pub push_answer-q-requires : goal.push_answer-q-requires
+push_answer-q-requires c =
+    record {
+      fact_1 = c.requires.fact_1;
+      fact_2 = omega (arith, c.put_digits-p.ensures.end, long-length c.args.line (omega arith), c.put_digits-p.auto.out, c.requires.fact_2);
+    }
+
+pub put_byte-requires : goal.put_byte-requires
+put_byte-requires c =
+    omega (
+      arith,
+      c.push_answer-q.ensures.room,
+      c.push_answer-q.auto.out,
+      c.put_digits-p.ensures.end,
+      c.put_digits-p.auto.out,
+      long-length c.args.line (omega arith),
+      c.requires.fact_2,
+    )
+
+pub returns : goal.returns
+returns c =
+    line-pushed _ _ _ _ _ _ _ _ _ _ (omega arith) (omega arith) c.put_digits-p.ensures c.push_answer-q.ensures
+    c.put_byte.ensures

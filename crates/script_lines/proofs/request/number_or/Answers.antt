@@ -1,0 +1,10 @@
+-- `number_or` gives the default where the number is lacking.
+use Rattle.script_lines.proofs.Calls.{or-default, or-had}
+use borrow.Author.Rules.{rules}
+use Rattle.script_lines.proofs.request.number_or.Goals as goal
+
+pub returns-then-lacks : goal.returns-then-lacks
+returns-then-lacks c = or-default _ _ _ _ c.if-lacks.true
+
+pub returns : goal.returns
+returns c = or-had _ _ _ _ _ c.if-lacks.false c.number_at.ensures
