@@ -5,9 +5,10 @@ use std::path::PathBuf;
 use std::process::{Command, Stdio};
 use std::thread;
 
-/// Where the program of that name was built.
+/// Where the program of that name was built: in its crate's `out`.
 pub fn path(name: &str) -> PathBuf {
-    PathBuf::from(env!("CARGO_MANIFEST_DIR")).join("../target/bin").join(name)
+    let crates = PathBuf::from(env!("CARGO_MANIFEST_DIR")).join("../crates");
+    crates.join(name).join("out").join(name)
 }
 
 /// What the program writes for this input.

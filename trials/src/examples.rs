@@ -67,8 +67,8 @@ pub fn definitions() -> Option<String> {
     let names: Vec<&str> = others.iter().map(|example| example.name).collect();
     Some(format!(
         "-- Scripts answered by the reference; made by `script-table`, not edited by hand.\n\
-         use mathlib.Core.List.{{List, [], _∷_}}\n\
-         use Rattle·rules·specs.specs.Script.{{Example}}\n\n\
+         use Rattle.std.specs.Prelude.{{List, [], ◌∷◌}}\n\
+         use Rattle.rules.specs.Script.{{Example}}\n\n\
          {}\n\
          unfoldable pub scripts : List Example\nscripts = {}\n\n\
          -- what a theorem that computes with these tables unfolds\n\
