@@ -6,7 +6,7 @@ use mathlib.Core.List.{List, [], ◌∷◌, ◌++◌, append-nil}
 use native.Mathlib.Omega.{arith}
 use native.Mathlib.Numerals.{add-one}
 use lib.Dec.{leb}
-use lib.ListN.{length, take, drop, length-take, length-drop}
+use lib.ListN.{length, take, length-take}
 use borrow.Author.Tests.{leb-true, leb-false}
 use Rattle.rules.proofs.Tests.{by_bool}
 use lib.Seq.{take_all, length-take-le}
@@ -136,14 +136,6 @@ cut-held held part count n size few e =
     let long : length (take count held) ≡ count = length-take-le count held (omega arith) in
     take-over (take count held) part HELD (HELD - count) (omega arith)
     ∙ ap (λ (l : List ℕ). take count held ++ l) (take_min (HELD - count) part ∙ ap (λ k. take k part) (sym e))
-
-pub hold-few : (part : List ℕ) (a n : ℕ) → n ≡ min a (length part) → n ≡ length (take n part)
-hold-few part a n e = sym (length-take-le n part (omega arith))
-
-pub hold-room : (held part : List ℕ) (count n : ℕ) → length held ≡ HELD → count ≤ HELD → n ≡ min (HELD - count) (length part)
-    → length (take n part) ≤ length (take (length held - count) (drop count held))
-hold-room held part count n size few e =
-    omega (arith, length-take-le n part (omega arith), length-take-le (length held - count) (drop count held) (omega (arith, length-drop count held)))
 
 pub hold-is : (held part back rest : List ℕ) (count n : ℕ) → length held ≡ HELD → count ≤ HELD → n ≡ min (HELD - count) (length part)
     → back ≡ take n part → Holds held count part (take count held ++ (back ++ rest)) (count + n)
