@@ -2,7 +2,6 @@
 #![tactic(auto)]
 
 mod chain;
-mod fill;
 
 ghost use Rattle.std.specs.Prelude.{◌≡◌, length};
 ghost use Rattle.layout.specs.Layout as Layout;
@@ -33,7 +32,7 @@ fn fresh_bytes(bytes: &mut [u8])
     requires { length bytes.old ≡ Layout.BYTES }
     ensures { bytes.new ≡ fresh_bytes }
 {
-    fill::zero_bytes(bytes);
+    bytes.fill(0);
     bytes[FLAG + MAX_OBJECTS] = 1;
 }
 
@@ -65,7 +64,7 @@ fn fresh_links(links: &mut [u16])
     requires { length links.old ≡ Layout.LINKS }
     ensures { links.new ≡ fresh_links }
 {
-    fill::zero_links(links);
+    links.fill(0);
     free_links(links);
     first_links(links);
 }
@@ -75,7 +74,7 @@ fn fresh_words(supply: u32, password: [u32; 2], words: &mut [u32])
     requires { length words.old ≡ Layout.WORDS }
     ensures { words.new ≡ fresh_words supply (password_of password) }
 {
-    fill::zero_words(words);
+    words.fill(0);
     words[CASH + MAX_OBJECTS] = supply;
     words[P1 + MAX_CAPS] = password[0];
     words[P2 + MAX_CAPS] = password[1];
@@ -92,13 +91,7 @@ pub fn fresh(
     ensures { Fresh supply (password_of password) bytes.old links.old words.old
         bytes.new links.new words.new result }
 {
-    if bytes.len() != BYTES {
-        return 1;
-    }
-    if links.len() != LINKS {
-        return 1;
-    }
-    if words.len() != WORDS {
+    if bytes.len() != BYTES || links.len() != LINKS || words.len() != WORDS {
         return 1;
     }
     fresh_bytes(bytes);
