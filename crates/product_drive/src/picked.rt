@@ -24,7 +24,7 @@ impl Picked {
         Picked {
             code,
             step: 0,
-            place: place,
+            place,
             count: 0,
         }
     }

@@ -15,10 +15,7 @@ fn holds_repeat(window: Window, repeat: Repeat) -> bool
     requires { repeat_fits repeat ≡ true }
     ensures { result ≡ holds_repeat window repeat }
 {
-    if window.start <= window.end {
-        return window.end - window.start == repeat.picks * repeat.row;
-    }
-    false
+    window.start <= window.end && window.end - window.start == repeat.picks * repeat.row
 }
 
 // Why no read is tried: the question's own refusal, then 17; 0 where it is tried.
@@ -49,7 +46,7 @@ pub(crate) fn row_request(
 {
     let start = window.start + (place.next - 1) * repeat.row;
     let row = Window {
-        start: start,
+        start,
         end: start + repeat.row,
     };
     Request::read(caller, x, row)

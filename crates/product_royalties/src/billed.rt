@@ -20,7 +20,7 @@ impl Billed {
     {
         Billed {
             code,
-            count: count,
+            count,
             sum: 0,
         }
     }
@@ -33,7 +33,7 @@ impl Billed {
             return Billed {
                 code: DONE,
                 count: total,
-                sum: sum,
+                sum,
             };
         }
         Billed::refused(r.code, count)

@@ -4,7 +4,6 @@
 #![tactic(auto)]
 
 ghost use Rattle.std.specs.Prelude.{◌≡◌, ◌≢◌, List, ℕ, length};
-ghost use Rattle.rules.specs.Slots.{one};
 ghost use Rattle.rules.specs.Questions.{uncounted, passwords_asked};
 ghost use Rattle.layout.specs.Layout;
 ghost use Rattle.layout.specs.View.{view};
@@ -19,8 +18,8 @@ use call_steps::present::{expired, right_held};
 use call_steps::ranges::name_fits;
 use call_steps::request::Name;
 use kernel_check::check;
+use layout::OWNER;
 use layout::process::is_process;
-use layout::{OWNER, slot};
 use values::code::{DONE, ILL_FORMED, NOT_RUNNING, OUT_OF_RANGE};
 use values::limit::MAX_CAPS;
 use values::rights::Rights;
@@ -39,24 +38,14 @@ fn refuse(code: u32) -> Counted
     Counted { code, count: 0 }
 }
 
-// How many passwords there are by slot i: 1 where it holds a capability of the object in slot o that is not expired and holds
-// the right, else 0.
-fn held_at(links: &[u16], i: usize, o: usize, right: Rights) -> u32
-    requires fact_1 { length links.now ≡ Layout.LINKS }
-    requires fact_2 { CapSlot i }
-    requires fact_3 { o ≢ 0 }
-    ensures { (b w : List ℕ) → result ≡ one (holds (view b links.now w) o right.0 i) }
+// Slot i holds a capability of the object in slot o that is not expired and holds the right.
+fn holds(links: &[u16], i: usize, o: usize, right: Rights) -> bool
+    requires sized { length links.now ≡ Layout.LINKS }
+    requires slot { CapSlot i }
+    requires some { o ≢ 0 }
+    ensures { (b w : List ℕ) → result ≡ holds (view b links.now w) o right.0 i }
 {
-    if slot(links[OWNER + i]) == o {
-        if expired(links, i) {
-            return 0;
-        }
-        if right_held(links, i, right) {
-            return 1;
-        }
-        return 0;
-    }
-    0
+    usize::from(links[OWNER + i]) == o && !expired(links, i) && right_held(links, i, right)
 }
 
 // How many capabilities of the object in slot o are not expired and hold the right; an absent object has none.
@@ -67,11 +56,11 @@ fn held(links: &[u16], o: usize, right: Rights) -> u32
     if o == 0 {
         return 0;
     }
-    let mut count: u32 = 0;
-    let mut i: usize = MAX_CAPS;
-    while 0 < i {
-        count += held_at(links, i, o, right);
-        i -= 1;
+    let mut count = 0;
+    for i in 1..=MAX_CAPS {
+        if holds(links, i, o, right) {
+            count += 1;
+        }
     }
     count
 }

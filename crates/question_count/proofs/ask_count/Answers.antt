@@ -1,5 +1,4 @@
 -- `ask_count` is refused by 1, or asks the rules' question.
-use borrow.Author.Rules.{rules}
 use Rattle.layout.proofs.Deciding.{refuted}
 use Rattle.layout.proofs.Plain.{plain}
 use Rattle.layout.proofs.Question.{asked-unsound, asked-formed}

@@ -1,11 +1,9 @@
 -- `count_of` is refused by 2 or 3, or counts the capabilities of the object named.
-use Prim.Native.Nat.{ℕ}
 use mathlib.Core.Path.{◌≡◌, sym, ap, ap₂, ◌∙◌}
 use mathlib.Core.Bool.{Bool, true, false, ◌&&◌}
 use native.Mathlib.Omega.{arith}
-use borrow.Author.Rules.{rules}
 use Rattle.rules.specs.Code as Code
-use Rattle.rules.specs.Store.{Name, State, object_named}
+use Rattle.rules.specs.Store.{object_named}
 use Rattle.rules.specs.Rights.{is_right}
 use Rattle.rules.specs.Refusals.{name_fits}
 use Rattle.rules.proofs.Tests.{all3}

@@ -1,6 +1,5 @@
 -- `unread` is the question's own refusal, then 17.
 use mathlib.Core.Path.{sym, ◌∙◌}
-use borrow.Author.Rules.{rules}
 use Rattle.product_drive.proofs.Rows.{unread-asked, unread-length, unread-none}
 use Rattle.product_drive.proofs.row.unread.Goals as goal
 

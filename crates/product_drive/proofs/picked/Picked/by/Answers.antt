@@ -1,6 +1,5 @@
 -- `by` goes by the reply's code.
 use mathlib.Core.Path.{sym, ◌∙◌}
-use borrow.Author.Rules.{rules}
 use Rattle.product_drive.proofs.Outcomes.{picked-done, picked-refused}
 use Rattle.product_drive.proofs.picked.Picked.by.Goals as goal
 
