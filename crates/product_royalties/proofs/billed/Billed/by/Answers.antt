@@ -1,6 +1,5 @@
 -- `by` goes by the reply's code.
 use mathlib.Core.Path.{sym, ◌∙◌}
-use borrow.Author.Rules.{rules}
 use Rattle.product_royalties.specs.Bills.{done_bill}
 use Rattle.product_royalties.proofs.Billing.{billed-done, billed-refused}
 use Rattle.product_royalties.proofs.billed.Billed.by.Goals as goal
