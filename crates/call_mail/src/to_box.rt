@@ -48,7 +48,7 @@ pub fn send(
         }
         let left = Cash(words[CASH + me]).less(sum);
         words[CASH + me] = left.0;
-        place(bytes, words, text, o * BOX_SLOTS + count as usize, sum);
+        place(bytes, words, text, o * BOX_SLOTS + usize::from(count), sum);
         bytes[COUNT + o] = count + 1;
         bytes[WAITING + o] = 0;
         return Reply::done();

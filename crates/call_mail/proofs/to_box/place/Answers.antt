@@ -1,7 +1,6 @@
 -- `place` stores the text, the length and the sum.
 use native.Mathlib.Omega.{arith}
 use lib.ListN.{length-set}
-use borrow.Author.Rules.{rules}
 use Rattle.call_mail.proofs.Copying.{copied-length}
 use Rattle.call_mail.proofs.Stops.{placed-is}
 use Rattle.call_mail.proofs.to_box.place.Goals as goal

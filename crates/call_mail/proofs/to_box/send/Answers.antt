@@ -4,7 +4,6 @@ use mathlib.Core.Path.{refl, sym, ◌∙◌}
 use native.Mathlib.Omega.{arith}
 use lib.ListN.{get_or, length-set}
 use borrow.Author.Tests.{le-leb, lt-leb}
-use borrow.Author.Rules.{rules}
 use Rattle.rules.specs.Refusals.{◌when◌, first}
 use Rattle.layout.specs.Layout as Layout
 use Rattle.call_steps.proofs.Replying.{refused-is, done-is}
@@ -68,7 +67,7 @@ place-requires c =
       bytes = pre.sized.bytes;
       words = simp length-set pre.sized.words;
       short = pre.short;
-      high = below-259 (goal.at.place-requires c).Else-count-ge-MAX_MESSAGES;
+      high = rw c.from.ensures (below-259 (goal.at.place-requires c).Else-count-ge-MAX_MESSAGES);
     }
 
 pub overflow_add-bytes : goal.overflow_add-bytes
@@ -104,7 +103,7 @@ pub returns-then-is_process : goal.returns-then-is_process
 returns-then-is_process c =
     let a = c.args in
     done-is c.done.ensures
-    (send-done (sending (goal.at.returns-then-is_process c).After-is_process) a.words.now a.sum a.text.now c.place.ensures
+    (send-done (sending (goal.at.returns-then-is_process c).After-is_process) a.words.now a.sum a.text.now (rw c.from.ensures at c.place.ensures)
     c.less-left.ensures c.if-is_process.true
     (sym c.below.ensures ∙ c.if-below.false) (lt-leb 4 _ c.if-count-ge-MAX_MESSAGES.false))
 
