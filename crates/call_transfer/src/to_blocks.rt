@@ -12,6 +12,7 @@ use call_steps::request::Reply;
 use layout::DATA;
 use values::code::OUTSIDE_WINDOW;
 use values::limit::BLOCK_SIZE;
+use values::window::Window;
 
 // The text to the bytes from start on of the object whose first block is head.
 fn copy_in(bytes: &mut [u8], links: &[u16], text: &[u8], head: usize, start: usize)
@@ -21,6 +22,7 @@ fn copy_in(bytes: &mut [u8], links: &[u16], text: &[u8], head: usize, start: usi
 {
     let mut block = block_at(links, head, start / BLOCK_SIZE);
     let mut i: usize = 0;
+    // kept: as in `copy_out`; one loop for both would be lent a closure that writes, and be told by it what it wrote
     while i < text.len() {
         let p = start + i;
         let m = part_of(p, text.len() - i);
@@ -31,23 +33,22 @@ fn copy_in(bytes: &mut [u8], links: &[u16], text: &[u8], head: usize, start: usi
     }
 }
 
-// The bytes start to end of the object that capability k is for become the text.
+// The bytes in the range, of the object that capability k is for, become the text.
 pub fn write(
     bytes: &mut [u8],
     links: &[u16],
     words: &[u32],
     text: &[u8],
     k: usize,
-    start: u32,
-    end: u32,
+    range: Window,
 ) -> Reply
-    requires { WriteAsks bytes.old links.now words.now text.now k start end }
+    requires { WriteAsks bytes.old links.now words.now text.now k range.start range.end }
     ensures { Replies result bytes.new links.now words.now
-        (write_run bytes.old links.now words.now k start end text.now) }
+        (write_run bytes.old links.now words.now k range.start range.end text.now) }
 {
-    if in_window(words, k, start, end) {
+    if in_window(words, k, range) {
         let head = first_block(links, k);
-        copy_in(bytes, links, text, head, start as usize);
+        copy_in(bytes, links, text, head, range.start as usize);
         return Reply::done();
     }
     Reply::refused(OUTSIDE_WINDOW)

@@ -1,5 +1,5 @@
 -- `copy_out` copies part by part, and walks the chain once.
-use Prim.Native.Nat.{◌+◌, ◌*◌, ◌-◌, ◌%◌, ◌≤◌}
+use Prim.Native.Nat.{◌+◌, ◌*◌, ◌%◌, ◌≤◌}
 use mathlib.Core.Path.{◌≡◌, refl, ap, ◌∙◌}
 use native.Mathlib.Omega.{arith}
 use lib.ListN.{get_or, length}
@@ -7,8 +7,7 @@ use Rattle.layout.specs.Layout as Layout
 use Rattle.call_steps.specs.Copies.{laid, copied}
 use Rattle.call_transfer.specs.Runs.{cell_of, copied_out}
 use Rattle.call_steps.proofs.Laid.{laid-length}
-use Rattle.call_transfer.proofs.Copying.{Walking, walk-blocked, walk-starts, walk_block, part-cell, walk-on, laid_more}
-use borrow.Author.Rules.{rules}
+use Rattle.call_transfer.proofs.Copying.{walk-blocked, walk-starts, walk_block, part-cell, walk-on, laid_more}
 use Rattle.call_transfer.proofs.from_blocks.copy_out.Goals as goal
 use Rattle.call_transfer.proofs.from_blocks.copy_out.Goals.{At-loop-i, In-loop-i}
 

@@ -1,5 +1,4 @@
 -- `read` is stopped by 7, or copies the bytes.
-use Prim.Native.Nat.{◌-◌}
 use mathlib.Core.Path.{◌≡◌, sym, ◌∙◌}
 use mathlib.Core.Bool.{true}
 use native.Mathlib.Omega.{arith}
@@ -9,18 +8,17 @@ use Rattle.call_steps.proofs.Replying.{fills-refused}
 use Rattle.call_transfer.specs.Runs.{range}
 use Rattle.call_transfer.proofs.Stops.{copy-asks}
 use Rattle.call_transfer.proofs.Reading.{reads-met, reads-done}
-use borrow.Author.Rules.{rules}
 use Rattle.call_transfer.proofs.from_blocks.read.Goals as goal
 use Rattle.call_transfer.proofs.from_blocks.read.Goals.{Then-in_window}
 
 -- the range lies in the window
-lies : (c : Then-in_window) → lies_in (range c.args.start c.args.end) (window_in c.args.words.now c.args.k) ≡ true
+lies : (c : Then-in_window) → lies_in (range c.args.range.start c.args.range.end) (window_in c.args.words.now c.args.k) ≡ true
 lies c = sym c.in_window.ensures ∙ c.if-in_window.true
 
 pub copy_out-requires : goal.copy_out-requires
 copy_out-requires c =
     let p = c.requires in record {
-      fact_1 = copy-asks _ c.args.start c.args.end _ p.sized p.target c.first_block-head.ensures
+      fact_1 = copy-asks _ c.args.range.start c.args.range.end _ p.sized p.target c.first_block-head.ensures
           (lies (goal.at.copy_out-requires c).Then-in_window) (omega (arith, p.ordered));
       fact_2 = omega (arith, p.ordered, p.short, p.room);
     }
