@@ -1,10 +1,8 @@
 -- deposit meets its contract: past its two tests the climb changes, then the caller's cash.
-use Prim.Native.Nat.{◌-◌}
 use mathlib.Core.Path.{◌≡◌, sym, ◌∙◌}
 use mathlib.Core.Bool.{false}
 use native.Mathlib.Omega.{arith}
 use lib.Dec.{ltb}
-use borrow.Author.Rules.{rules}
 use Rattle.layout.specs.Rows.{cash_of}
 use Rattle.call_steps.proofs.Replying.{refused-is, done-is}
 use Rattle.call_purse.specs.declared.way.Way.TheVariants.{Into}

@@ -2,7 +2,6 @@
 use mathlib.Core.Path.{◌≡◌, sym, ◌∙◌}
 use mathlib.Core.Bool.{false}
 use native.Mathlib.Omega.{arith}
-use borrow.Author.Rules.{rules}
 use Rattle.call_steps.proofs.Replying.{refused-is, done-is}
 use Rattle.call_purse.specs.declared.way.Way.TheVariants.{Out}
 use Rattle.call_purse.specs.Climb.{climb_stops}
