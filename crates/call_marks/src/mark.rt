@@ -1,6 +1,7 @@
 // "suspend, resume: 8 not a process. Sets or clears the mark." "wait: no more."
 // "With an empty box it sets the mark."
 ghost use Rattle.std.specs.Prelude.{ℕ, ◌≡◌, List, length};
+ghost use Rattle.std.specs.Int.{from_bool};
 ghost use Rattle.layout.specs.Layout as Layout;
 ghost use Rattle.call_steps.specs.Tests.{ObjectSlot};
 ghost use Rattle.call_steps.specs.Replies.{Replies};
@@ -12,15 +13,15 @@ use call_steps::target::target;
 use layout::{COUNT, SUSPENDED, WAITING};
 use values::code::NOT_PROCESS;
 
-// The suspended mark of the object that capability k is for, 1 set or 0 clear.
-fn set_suspended(bytes: &mut [u8], links: &[u16], k: usize, mark: u8) -> Reply
+// The suspended mark of the object that capability k is for.
+fn set_suspended(bytes: &mut [u8], links: &[u16], k: usize, suspended: bool) -> Reply
     requires { MarkAsks bytes.old links.now k }
     ensures { (w : List ℕ) → Replies result bytes.new links.now w
-        (suspended_run bytes.old links.now w k mark) }
+        (suspended_run bytes.old links.now w k (from_bool suspended)) }
 {
     let o = target(links, k);
     if has_flag(bytes, o) {
-        bytes[SUSPENDED + o] = mark;
+        bytes[SUSPENDED + o] = u8::from(suspended);
         return Reply::done();
     }
     Reply::refused(NOT_PROCESS)
@@ -31,7 +32,7 @@ pub fn suspend(bytes: &mut [u8], links: &[u16], k: usize) -> Reply
     ensures { (w : List ℕ) → Replies result bytes.new links.now w
         (suspended_run bytes.old links.now w k 1) }
 {
-    set_suspended(bytes, links, k, 1)
+    set_suspended(bytes, links, k, true)
 }
 
 pub fn resume(bytes: &mut [u8], links: &[u16], k: usize) -> Reply
@@ -39,7 +40,7 @@ pub fn resume(bytes: &mut [u8], links: &[u16], k: usize) -> Reply
     ensures { (w : List ℕ) → Replies result bytes.new links.now w
         (suspended_run bytes.old links.now w k 0) }
 {
-    set_suspended(bytes, links, k, 0)
+    set_suspended(bytes, links, k, false)
 }
 
 // The waiting mark of the caller, in slot me, where its box is empty.

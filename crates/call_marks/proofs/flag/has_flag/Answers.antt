@@ -1,6 +1,5 @@
 -- `has_flag` reads the row of flags.
 use mathlib.Core.Path.{sym, ap}
-use borrow.Author.Rules.{rules}
 use Rattle.layout.specs.Layout as Layout
 use Rattle.layout.specs.View.{is_set}
 use Rattle.layout.proofs.Field.{field_in}

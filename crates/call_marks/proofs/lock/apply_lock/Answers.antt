@@ -3,7 +3,6 @@ use native.Mathlib.Omega.{arith}
 use lib.ListN.{length-set}
 use Rattle.call_steps.proofs.Replying.{refused-is, done-is}
 use Rattle.call_marks.proofs.Stops.{Found, lock-met, lock-done}
-use borrow.Author.Rules.{rules}
 use Rattle.call_marks.proofs.lock.apply_lock.Goals as goal
 use Rattle.call_marks.proofs.lock.apply_lock.Goals.{After-has_flag}
 

@@ -2,7 +2,6 @@
 use native.Mathlib.Omega.{arith}
 use lib.ListN.{length-set}
 use Rattle.call_marks.proofs.Stops.{moved-room, moved-is}
-use borrow.Author.Rules.{rules}
 use Rattle.call_marks.proofs.terminated.move_cash.Goals as goal
 
 pub bounds-words-o : goal.bounds-words-o

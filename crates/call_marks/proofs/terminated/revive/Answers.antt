@@ -6,7 +6,6 @@ use Rattle.rules.specs.Refusals.{◌when◌, first}
 use Rattle.layout.proofs.Shown.{set-yes, set-no}
 use Rattle.call_steps.proofs.Replying.{refused-is, done-is}
 use Rattle.call_marks.proofs.Stops.{slot_of, Reviving, revive-met, revive-done, room-is}
-use borrow.Author.Rules.{rules}
 use Rattle.call_marks.proofs.terminated.revive.Goals as goal
 use Rattle.call_marks.proofs.terminated.revive.Goals.{After-has_flag}
 
