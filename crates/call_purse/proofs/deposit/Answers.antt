@@ -45,9 +45,6 @@ returns-then-climb_stops c b =
     (deposit-full at.links.now at.words.now at.me at.k at.sum
     (enough (goal.at.returns-then-climb_stops c).Else-below) (sym (climbed (goal.at.returns-then-climb_stops c).After-climb_stops) ∙ c.if-climb_stops.true)) (omega arith) b)
 
-pub climb_moves-requires : goal.climb_moves-requires
-climb_moves-requires c = (c.requires.climb, free (goal.at.climb_moves-requires c).Else-climb_stops)
-
 pub returns : goal.returns
 unfolding deposit_run deposited
 returns c b =

@@ -27,13 +27,6 @@ returns-then-climb_stops c b =
     (withdraw-short at.links.now at.words.now at.k at.sum (sym (tested (goal.at.returns-then-climb_stops c).After-climb_stops) ∙ c.if-climb_stops.true))
     (omega arith) b)
 
-pub climb_moves-requires : goal.climb_moves-requires
-climb_moves-requires c = (c.requires.payable.climb, free (goal.at.climb_moves-requires c).Else-climb_stops)
-
-pub overflow_add-words : goal.overflow_add-words
-overflow_add-words c =
-    record { fits = omega (arith, c.cash_of-cash.ensures, c.requires.room (free (goal.at.overflow_add-words c).Else-climb_stops)) }
-
 pub returns : goal.returns
 unfolding withdraw_run withdrawn
 returns c b =

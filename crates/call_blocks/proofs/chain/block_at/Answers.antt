@@ -1,6 +1,5 @@
 -- `block_at` steps on n times.
 use mathlib.Core.Path.{refl, sym, ap, ◌∙◌}
-use native.Mathlib.Omega.{arith}
 use native.Mathlib.Numerals.{add-one}
 use Rattle.layout.specs.Rows.{next_block_of}
 use Rattle.call_blocks.specs.Walk.{hop}
@@ -10,10 +9,6 @@ use Rattle.call_blocks.proofs.chain.block_at.Goals as goal
 pub loop-init : goal.loop-init
 unfolding hop
 loop-init c = refl
-
-pub next_block-block-requires : goal.next_block-block-requires
-next_block-block-requires c =
-    (c.requires.0, omega (arith, c.loop.invariant, c.requires.1 c.loop.counter c.loop-test.true))
 
 pub loop-preserved : goal.loop-preserved
 loop-preserved c =

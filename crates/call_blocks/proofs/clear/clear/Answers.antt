@@ -9,9 +9,6 @@ use Rattle.call_blocks.proofs.Walking.{passing-none, passing-more, passing-all}
 use Rattle.call_blocks.proofs.Walking.{Clearing, clearing-none, clearing-more, clearing-all}
 use Rattle.call_blocks.proofs.clear.clear.Goals as goal
 
-pub free_head-block-requires : goal.free_head-block-requires
-free_head-block-requires c = c.requires.fact_2.links
-
 pub loop-init : goal.loop-init
 loop-init c =
     let a = c.args in (
@@ -39,9 +36,6 @@ loop-preserved c =
           c.clear_block.ensures),
       passing-more now.invariant.1 _ c.next_block-block.ensures,
     )
-
-pub shape_of-bytes : goal.shape_of-bytes
-shape_of-bytes c = c.loop.invariant.0.size
 
 pub returns : goal.returns
 returns c =

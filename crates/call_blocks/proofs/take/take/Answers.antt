@@ -36,9 +36,6 @@ offset_bounds-links-last-2 c = omega (arith, last (goal.at.offset_bounds-links-l
 pub bounds-links-last-2 : goal.bounds-links-last-2
 bounds-links-last-2 c = simp length-set (omega (arith, last (goal.at.bounds-links-last-2 c).After-slice_known-1))
 
-pub bounds-links-o-2 : goal.bounds-links-o-2
-bounds-links-o-2 c = simp length-set (omega arith)
-
 pub returns : goal.returns
 returns c =
     taken-some c.args.links.now c.args.o c.args.n c.if-n-eq0.false _

@@ -1,6 +1,4 @@
 -- `apply_lock` stores the two XORed words of the target's lockword, or is stopped by 8.
-use native.Mathlib.Omega.{arith}
-use lib.ListN.{length-set}
 use Rattle.call_steps.proofs.Replying.{refused-is, done-is}
 use Rattle.call_marks.proofs.Stops.{Found, lock-met, lock-done}
 use Rattle.call_marks.proofs.lock.apply_lock.Goals as goal
@@ -8,9 +6,6 @@ use Rattle.call_marks.proofs.lock.apply_lock.Goals.{After-has_flag}
 
 found : (c : After-has_flag) → Found c.args.bytes.now c.args.links.now c.args.k c.target-o.result c.has_flag.result
 found c = record { target = c.target-o.ensures; process = c.has_flag.ensures }
-
-pub bounds-words-o-then-has_flag-3 : goal.bounds-words-o-then-has_flag-3
-bounds-words-o-then-has_flag-3 c = simp length-set (omega arith)
 
 pub returns-then-has_flag : goal.returns-then-has_flag
 returns-then-has_flag c =

@@ -25,9 +25,6 @@ pub loop-i-init : goal.loop-i-init
 unfolding laid
 loop-i-init c = (walk-starts c.requires _ c.block_at-block.ensures, refl)
 
-pub overflow_add-p : goal.overflow_add-p
-overflow_add-p c = omega (arith, c.requires.small)
-
 pub overflow_mul-to : goal.overflow_mul-to
 overflow_mul-to c = omega (arith, here (goal.at.overflow_mul-to c).In-loop-i)
 
@@ -47,12 +44,6 @@ copy-requires c =
 pub next_block-block-requires : goal.next_block-block-requires
 next_block-block-requires c = (c.requires.links, here (goal.at.next_block-block-requires c).In-loop-i)
 
-pub overflow_add-i : goal.overflow_add-i
-overflow_add-i c = omega (arith, c.part_of-m.ensures, c.requires.small)
-
-pub loop-i-smaller : goal.loop-i-smaller
-loop-i-smaller c = omega (arith, c.part_of-m.ensures, c.loop-i-test.true)
-
 pub loop-i-preserved : goal.loop-i-preserved
 unfolding copied
 loop-i-preserved c =
@@ -68,9 +59,6 @@ loop-i-preserved c =
           (λ j h. part-cell c.requires w c.loop-i-test.true _ part j h)
           (λ j h. refl),
     )
-
-pub shape_of-bytes : goal.shape_of-bytes
-shape_of-bytes c = size (goal.at.shape_of-bytes c).At-loop-i
 
 pub returns : goal.returns
 returns c =
