@@ -4,7 +4,8 @@ use mathlib.Core.Bool.{false}
 use native.Mathlib.Omega.{arith}
 use lib.Dec.{ltb}
 use Rattle.layout.specs.Rows.{cash_of}
-use Rattle.call_steps.proofs.Replying.{refused-is, done-is}
+use Rattle.values.specs.declared.refusal.Refusal.TheVariants.{TooLittle, Overflows}
+use Rattle.call_steps.proofs.Replying.{refuses, refused-is, done-is}
 use Rattle.call_purse.specs.declared.way.Way.TheVariants.{Into}
 use Rattle.call_purse.specs.Climb.{climb_stops}
 use Rattle.call_purse.specs.Calls.{deposited, deposit_run}
@@ -31,7 +32,7 @@ pub returns-then-below : goal.returns-then-below
 unfolding deposit_run
 returns-then-below c b =
     let at = c.args in
-    refused-is c.refused.ensures
+    refused-is (refuses TooLittle)
     (refused at.links.now at.words.now (deposited at.links.now at.words.now at.me at.k at.sum) 9
     (deposit-short at.links.now at.words.now at.me at.k at.sum
     (sym (tested (goal.at.returns-then-below c).After-below) ∙ c.if-below.true)) (omega arith) b)
@@ -40,7 +41,7 @@ pub returns-then-climb_stops : goal.returns-then-climb_stops
 unfolding deposit_run
 returns-then-climb_stops c b =
     let at = c.args in
-    refused-is c.refused-then-climb_stops.ensures
+    refused-is (refuses Overflows)
     (refused at.links.now at.words.now (deposited at.links.now at.words.now at.me at.k at.sum) 10
     (deposit-full at.links.now at.words.now at.me at.k at.sum
     (enough (goal.at.returns-then-climb_stops c).Else-below) (sym (climbed (goal.at.returns-then-climb_stops c).After-climb_stops) ∙ c.if-climb_stops.true)) (omega arith) b)

@@ -2,7 +2,8 @@
 use mathlib.Core.Path.{◌≡◌, sym, ◌∙◌}
 use mathlib.Core.Bool.{false}
 use native.Mathlib.Omega.{arith}
-use Rattle.call_steps.proofs.Replying.{refused-is, done-is}
+use Rattle.values.specs.declared.refusal.Refusal.TheVariants.{TooLittle}
+use Rattle.call_steps.proofs.Replying.{refuses, refused-is, done-is}
 use Rattle.call_purse.specs.declared.way.Way.TheVariants.{Out}
 use Rattle.call_purse.specs.Climb.{climb_stops}
 use Rattle.call_purse.specs.Calls.{withdrawn, withdraw_run}
@@ -22,7 +23,7 @@ pub returns-then-climb_stops : goal.returns-then-climb_stops
 unfolding withdraw_run
 returns-then-climb_stops c b =
     let at = c.args in
-    refused-is c.refused.ensures
+    refused-is (refuses TooLittle)
     (refused at.links.now at.words.now (withdrawn at.links.now at.words.now at.me at.k at.sum) 9
     (withdraw-short at.links.now at.words.now at.k at.sum (sym (tested (goal.at.returns-then-climb_stops c).After-climb_stops) ∙ c.if-climb_stops.true))
     (omega arith) b)
