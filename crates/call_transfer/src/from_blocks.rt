@@ -8,10 +8,10 @@ use crate::part::part_of;
 use crate::window::{first_block, in_window};
 use call_blocks::chain::{block_at, next_block};
 use call_steps::copy::copy;
-use call_steps::request::Reply;
+use call_steps::request::{Given, Reply};
 use layout::DATA;
-use values::code::OUTSIDE_WINDOW;
 use values::limit::BLOCK_SIZE;
+use values::refusal::Refusal;
 use values::window::Window;
 
 // n bytes from start on, of the object whose first block is head, to the buffer's front.
@@ -48,18 +48,12 @@ pub fn read(
     ensures { Fills result bytes.now links.now words.now buffer.old
         buffer.new (read_run bytes.now links.now words.now k range.start range.end) }
 {
-    if in_window(words, k, range) {
-        let head = first_block(links, k);
-        let count = range.end - range.start;
-        copy_out(
-            bytes,
-            links,
-            buffer,
-            head,
-            range.start as usize,
-            count as usize,
-        );
-        return Reply::hands_over(0, count);
+    if !in_window(words, k, range) {
+        return Err(Refusal::OutsideWindow);
     }
-    Reply::refused(OUTSIDE_WINDOW)
+    let head = first_block(links, k);
+    let start = range.start as usize;
+    let count = range.end - range.start;
+    copy_out(bytes, links, buffer, head, start, count as usize);
+    Ok(Given::hands_over(0, count))
 }

@@ -8,10 +8,10 @@ use crate::part::part_of;
 use crate::window::{first_block, in_window};
 use call_blocks::chain::{block_at, next_block};
 use call_steps::copy::copy;
-use call_steps::request::Reply;
+use call_steps::request::{Given, Reply};
 use layout::DATA;
-use values::code::OUTSIDE_WINDOW;
 use values::limit::BLOCK_SIZE;
+use values::refusal::Refusal;
 use values::window::Window;
 
 // The text to the bytes from start on of the object whose first block is head.
@@ -46,10 +46,10 @@ pub fn write(
     ensures { Replies result bytes.new links.now words.now
         (write_run bytes.old links.now words.now k range.start range.end text.now) }
 {
-    if in_window(words, k, range) {
-        let head = first_block(links, k);
-        copy_in(bytes, links, text, head, range.start as usize);
-        return Reply::done();
+    if !in_window(words, k, range) {
+        return Err(Refusal::OutsideWindow);
     }
-    Reply::refused(OUTSIDE_WINDOW)
+    let head = first_block(links, k);
+    copy_in(bytes, links, text, head, range.start as usize);
+    Ok(Given::done())
 }
