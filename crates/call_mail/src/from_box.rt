@@ -5,11 +5,11 @@ ghost use Rattle.call_steps.specs.Replies.{Fills};
 ghost use Rattle.call_mail.specs.Runs.{MoveAsks, Moved, ReceiveAsks, receive_run};
 
 use call_steps::copy::copy;
-use call_steps::request::Reply;
+use call_steps::request::{Given, Reply};
 use layout::{CASH, COUNT, LENGTH, SUM, TEXT};
 use values::cash::Cash;
-use values::code::BOX_EMPTY;
 use values::limit::{BOX_SLOTS, MAX_MESSAGE};
+use values::refusal::Refusal;
 
 // The three messages after slot i move down one place: texts, lengths and sums.
 fn move_down(bytes: &mut [u8], words: &mut [u32], i: usize)
@@ -32,7 +32,7 @@ pub fn receive(bytes: &mut [u8], words: &mut [u32], buffer: &mut [u8], me: usize
 {
     let count = bytes[COUNT + me];
     if count == 0 {
-        return Reply::refused(BOX_EMPTY);
+        return Err(Refusal::BoxEmpty);
     }
     let i = me * BOX_SLOTS;
     let length = bytes[LENGTH + i];
@@ -48,5 +48,5 @@ pub fn receive(bytes: &mut [u8], words: &mut [u32], buffer: &mut [u8], me: usize
     words[CASH + me] = cash.0 + sum;
     move_down(bytes, words, i);
     bytes[COUNT + me] = count - 1;
-    Reply::hands_over(sum, u32::from(length))
+    Ok(Given::hands_over(sum, u32::from(length)))
 }

@@ -3,7 +3,8 @@ use Prim.Native.Nat.{◌+◌, ◌*◌, ◌≤◌}
 use native.Mathlib.Omega.{arith}
 use lib.ListN.{get_or}
 use Rattle.layout.specs.Layout as Layout
-use Rattle.call_steps.proofs.Replying.{fills-refused}
+use Rattle.values.specs.declared.refusal.Refusal.TheVariants.{BoxEmpty}
+use Rattle.call_steps.proofs.Replying.{refuses, fills-refused}
 use Rattle.call_mail.proofs.Receiving.{oldest-short, oldest-fits, receive-met, receive-done}
 use Rattle.call_mail.proofs.from_box.receive.Goals as goal
 use Rattle.call_mail.proofs.from_box.receive.Goals.{Else-count-eq0}
@@ -16,7 +17,7 @@ fits : (c : Else-count-eq0) → get_or c.args.words.now (Layout.CASH + c.args.me
 fits c = oldest-fits c.requires c.if-count-eq0.false
 
 pub returns-then-count-eq0 : goal.returns-then-count-eq0
-returns-then-count-eq0 c l = fills-refused _ c.refused.ensures (receive-met c.requires c.if-count-eq0.true l)
+returns-then-count-eq0 c l = fills-refused _ (refuses BoxEmpty) (receive-met c.requires c.if-count-eq0.true l)
 
 pub overflow_add-words : goal.overflow_add-words
 overflow_add-words c = omega (arith, fits (goal.at.overflow_add-words c).Else-count-eq0)
