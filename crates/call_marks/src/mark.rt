@@ -7,11 +7,9 @@ ghost use Rattle.call_steps.specs.Tests.{ObjectSlot};
 ghost use Rattle.call_steps.specs.Replies.{Replies};
 ghost use Rattle.call_marks.specs.Runs.{MarkAsks, suspended_run, wait_run};
 
-use crate::flag::has_flag;
-use call_steps::request::Reply;
-use call_steps::target::target;
+use crate::process::process_of;
+use call_steps::request::{Given, Reply};
 use layout::{COUNT, SUSPENDED, WAITING};
-use values::code::NOT_PROCESS;
 
 // The suspended mark of the object that capability k is for.
 fn set_suspended(bytes: &mut [u8], links: &[u16], k: usize, suspended: bool) -> Reply
@@ -19,12 +17,9 @@ fn set_suspended(bytes: &mut [u8], links: &[u16], k: usize, suspended: bool) -> 
     ensures { (w : List ℕ) → Replies result bytes.new links.now w
         (suspended_run bytes.old links.now w k (from_bool suspended)) }
 {
-    let o = target(links, k);
-    if has_flag(bytes, o) {
-        bytes[SUSPENDED + o] = u8::from(suspended);
-        return Reply::done();
-    }
-    Reply::refused(NOT_PROCESS)
+    let o = process_of(bytes, links, k)?;
+    bytes[SUSPENDED + o] = u8::from(suspended);
+    Ok(Given::done())
 }
 
 pub fn suspend(bytes: &mut [u8], links: &[u16], k: usize) -> Reply
@@ -52,5 +47,5 @@ pub fn wait(bytes: &mut [u8], me: usize) -> Reply
     if bytes[COUNT + me] == 0 {
         bytes[WAITING + me] = 1;
     }
-    Reply::done()
+    Ok(Given::done())
 }

@@ -1,17 +1,22 @@
 // Refusal 8, "not a process".
-ghost use Rattle.std.specs.Prelude.{◌≡◌, length};
-ghost use Rattle.layout.specs.Layout as Layout;
-ghost use Rattle.layout.specs.Rows.{flag_of};
-ghost use Rattle.layout.specs.View.{is_set};
-ghost use Rattle.call_steps.specs.Tests.{ObjectSlot};
+ghost use Rattle.std.specs.Prelude.{◌≡◌, IfOk};
+ghost use Rattle.values.specs.Refusals.{code_of};
+ghost use Rattle.layout.specs.Rows.{owner_of};
+ghost use Rattle.call_marks.specs.Runs.{MarkAsks, process_stop};
 
+use call_steps::target::target;
 use layout::FLAG;
+use values::refusal::Refusal;
 
-// The object in slot o has a process's flag.
-pub(crate) fn has_flag(bytes: &[u8], o: usize) -> bool
-    requires fact_1 { length bytes.now ≡ Layout.BYTES }
-    requires fact_2 { ObjectSlot o }
-    ensures { result ≡ is_set (flag_of bytes.now o) }
+// The slot of the process that capability k is for.
+pub(crate) fn process_of(bytes: &[u8], links: &[u16], k: usize) -> Result<usize, Refusal>
+    requires { MarkAsks bytes.now links.now k }
+    ensures slot { IfOk result (λ o. o ≡ owner_of links.now k) }
+    ensures code { code_of result ≡ process_stop bytes.now links.now k }
 {
-    bytes[FLAG + o] != 0
+    let o = target(links, k);
+    if bytes[FLAG + o] == 0 {
+        return Err(Refusal::NotProcess);
+    }
+    Ok(o)
 }

@@ -1,13 +1,15 @@
--- `has_flag` reads the row of flags.
-use mathlib.Core.Path.{sym, ap}
-use Rattle.layout.specs.Layout as Layout
-use Rattle.layout.specs.View.{is_set}
-use Rattle.layout.proofs.Field.{field_in}
-use Rattle.call_marks.proofs.flag.has_flag.Goals as goal
+-- `process_of` reads the target's flag.
+use Rattle.call_marks.proofs.Stops.{no-process, a-process}
+use Rattle.call_marks.proofs.process.process_of.Goals as goal
+
+pub returns-then-bytes-o-eq0 : goal.returns-then-bytes-o-eq0
+returns-then-bytes-o-eq0 c = record {
+  slot = tt;
+  code = no-process c.args.bytes.now c.args.links.now c.args.k c.target-o.ensures c.requires.target c.if-bytes-o-eq0.true;
+}
 
 pub returns : goal.returns
-unfolding is_set
-returns c =
-    let a = c.args in
-    let h = c.requires.fact_2 in
-    sym (ap is_set (field_in 64 Layout.FLAG a.bytes.now a.o h.low h.high))
+returns c = record {
+  slot = c.target-o.ensures;
+  code = a-process c.args.bytes.now c.args.links.now c.args.k c.target-o.ensures c.requires.target c.if-bytes-o-eq0.false;
+}
