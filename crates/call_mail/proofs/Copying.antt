@@ -1,13 +1,15 @@
--- Cells copied: what stands in them after it, what does not change, and the loop that counts up.
-use Prim.Native.Nat.{ℕ, suc, ◌+◌, ◌≤◌, ◌<◌}
-use mathlib.Core.Path.{◌≡◌, refl, sym, ap, ◌∙◌, fun_ext}
+-- Cells copied: what stands in them after it, what does not change, and the library's copy inside a slice.
+use Prim.Native.Nat.{ℕ, ◌+◌, ◌-◌, ◌≤◌, ◌<◌}
+use mathlib.Core.Path.{◌≡◌, sym, ap, ◌∙◌, fun_ext}
 use mathlib.Core.Logic.{◌≢◌}
-use mathlib.Core.List.{List}
+use mathlib.Core.List.{List, ◌++◌, append_assoc}
 use native.Mathlib.Omega.{arith}
-use lib.ListN.{length, get_or, set, length-set}
+use lib.ListN.{length, get_or, take, drop}
+use lib.Seq.{paste, drop-drop}
 use Rattle.layout.specs.Rows.{field, region}
 use Rattle.layout.proofs.Field.{within, field_in, field_out, region-cells}
-use Rattle.call_steps.specs.Copies.{laid, copied, Copied}
+use Rattle.call_steps.specs.Copies.{copied, Copied}
+use Rattle.call_steps.proofs.Copying.{part-copied}
 use Rattle.call_steps.proofs.Laid.{laid-length, laid-other, laid-at}
 
 module _ (src : List ℕ) (from : ℕ) (dst : List ℕ) (to : ℕ) where
@@ -60,35 +62,21 @@ pub copied-length : {n : ℕ} {src : List ℕ} {from : ℕ} {dst : List ℕ} {to
     → Copied n src from dst to dst' → length dst' ≡ length dst
 copied-length {n} {src} {from} {dst} {to} c = ap length c.is ∙ length-copied src from dst to n
 
--- ---- the loop: i of n are copied
+-- ---- the library's copy inside a slice
 
-pub record Copying (src : List ℕ) (from : ℕ) (dst₀ : List ℕ) (to n : ℕ) (dst : List ℕ) (i : ℕ) : Type 0 where
-  pub done : dst ≡ copied i src from dst₀ to
-  pub size : length dst ≡ length dst₀
-  pub reached : i ≤ n
-
-pub copying-none : (src : List ℕ) (from : ℕ) (dst : List ℕ) (to n : ℕ) → Copying src from dst to n dst 0
-unfolding copied laid
-copying-none src from dst to n = record { done = refl; size = refl; reached = omega arith }
-
-module _ {src : List ℕ} {from : ℕ} {dst₀ : List ℕ} {to n : ℕ} {dst : List ℕ} {i : ℕ}
-    (C : Copying src from dst₀ to n dst i) where
-  pub copying-more : i < n → (v : ℕ) → v ≡ get_or src (from + i) 0
-      → Copying src from dst₀ to n (set dst (to + i) v) (i + 1)
-  unfolding copied laid
-  copying-more h v e =
-      let up : suc i ≡ i + 1 = omega arith in
-      record {
-        done = (λ k. set (C.done k) (to + i) (e k)) ∙ ap (λ k. copied k src from dst₀ to) up;
-        size = length-set dst (to + i) v ∙ C.size;
-        reached = omega arith;
-      }
-
-  -- in the same list, a cell of those still to come is as it was
-  pub ahead : (j : ℕ) → to + i ≤ j → get_or dst j 0 ≡ get_or dst₀ j 0
-  ahead j h = ap (λ d. get_or d j 0) C.done ∙ copied-out src from dst₀ to i j (λ m p. omega arith)
-
-  pub copying-all : n ≤ i → Copied n src from dst₀ to dst
-  copying-all h =
-      let e : i ≡ n = omega (arith, C.reached) in
-      record { is = C.done ∙ ap (λ k. copied k src from dst₀ to) e }
+pub within-copied : {l l' : List ℕ} {from end to : ℕ} (n : ℕ) → end ≡ from + n → from + n ≤ length l → to + n ≤ length l
+    → l' ≡ paste l to (drop from l) (end - from) → Copied n l from l to l'
+within-copied {l} {l'} {from} {end} {to} n e room fits h =
+    let p : end - from ≡ n = omega arith in
+    let q : n ≡ to + n - to = omega arith in
+    let r : n ≡ from + n - from = omega arith in
+    let part : List ℕ = take n (drop from l) in
+    let c = part-copied l l part from to n room fits (ap (λ m. take m (drop from l)) r) in
+    record {
+      is = h
+          ∙ ap (λ m. paste l to (drop from l) m) p
+          ∙ append_assoc (take to l) part (drop (to + n) l)
+          ∙ ap (λ x. take to l ++ (part ++ x)) (sym (drop-drop n to l))
+          ∙ ap (λ m. take to l ++ (part ++ drop m (drop to l))) q
+          ∙ c.is;
+    }
