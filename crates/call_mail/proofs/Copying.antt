@@ -1,11 +1,13 @@
--- Cells copied: what stands in them after it, what does not change, and the library's copy inside a slice.
+-- Cells copied: what stands in them after it, what does not change, and the library's copy inside a part of a slice.
 use Prim.Native.Nat.{ℕ, ◌+◌, ◌-◌, ◌≤◌, ◌<◌}
 use mathlib.Core.Path.{◌≡◌, sym, ap, ◌∙◌, fun_ext}
 use mathlib.Core.Logic.{◌≢◌}
 use mathlib.Core.List.{List, ◌++◌, append_assoc}
 use native.Mathlib.Omega.{arith}
-use lib.ListN.{length, get_or, take, drop}
-use lib.Seq.{paste, drop-drop}
+use lib.ListN.{length, get_or, take, drop, length-drop}
+use lib.Seq.{paste, drop-drop, length-take-le}
+use borrow.Rule.Slice.PartMut.{put_mid}
+use Rattle.std.proofs.lemmas.List.{drop-take, take-take, drop-append-le, take-append-drop}
 use Rattle.layout.specs.Rows.{field, region}
 use Rattle.layout.proofs.Field.{within, field_in, field_out, region-cells}
 use Rattle.call_steps.specs.Copies.{copied, Copied}
@@ -62,21 +64,40 @@ pub copied-length : {n : ℕ} {src : List ℕ} {from : ℕ} {dst : List ℕ} {to
     → Copied n src from dst to dst' → length dst' ≡ length dst
 copied-length {n} {src} {from} {dst} {to} c = ap length c.is ∙ length-copied src from dst to n
 
--- ---- the library's copy inside a slice
+-- ---- the library's copy inside a part of a slice, down to the part's front
 
-pub within-copied : {l l' : List ℕ} {from end to : ℕ} (n : ℕ) → end ≡ from + n → from + n ≤ length l → to + n ≤ length l
-    → l' ≡ paste l to (drop from l) (end - from) → Copied n l from l to l'
-within-copied {l} {l'} {from} {end} {to} n e room fits h =
-    let p : end - from ≡ n = omega arith in
-    let q : n ≡ to + n - to = omega arith in
-    let r : n ≡ from + n - from = omega arith in
-    let part : List ℕ = take n (drop from l) in
-    let c = part-copied l l part from to n room fits (ap (λ m. take m (drop from l)) r) in
+-- of a part T of by + n cells, the last n
+module _ (T : List ℕ) (by n : ℕ) where
+  pasted : paste T 0 (drop by T) n ≡ take n (drop by T) ++ drop n T
+  pasted =
+      let e : 0 + n ≡ n = omega arith in
+      ap (λ m. take n (drop by T) ++ drop m T) e
+
+-- the part is that from `at` to `end`
+pub part-moved : (l part : List ℕ) (at end by top n : ℕ) → end ≡ at + (by + n) → top ≡ by + n → end ≤ length l
+    → part ≡ paste (take (end - at) (drop at l)) 0 (drop by (take (end - at) (drop at l))) (top - by)
+    → Copied n l (at + by) l at (put_mid at (end - at) l part)
+part-moved l part at end by top n e t fits p =
+    let X : List ℕ = drop at l in
+    let T : List ℕ = take (by + n) X in
+    let back : List ℕ = take n (drop by X) in
+    let size : end - at ≡ by + n = omega arith in
+    let count : top - by ≡ n = omega arith in
+    let room : by + n ≤ length X = omega (arith, length-drop at l) in
+    let long : length T ≡ by + n = length-take-le (by + n) X room in
+    let source : take n (drop by T) ≡ back = ap (take n) (drop-take by n X) ∙ take-take n n (drop by X) (omega arith) in
+    let rest : drop n T ++ drop (by + n) X ≡ drop n X =
+    sym (drop-append-le n T (drop (by + n) X) (omega arith)) ∙ ap (drop n) (take-append-drop (by + n) X) in
+    let is : part ≡ back ++ drop n T =
+    p ∙ (λ d. paste (take (size d) X) 0 (drop by (take (size d) X)) (count d)) ∙ pasted T by n
+    ∙ ap (λ x. x ++ drop n T) source in
+    let q : n ≡ at + n - at = omega arith in
+    let r : n ≡ at + by + n - (at + by) = omega arith in
+    let c = part-copied l l back (at + by) at n (omega arith) (omega arith)
+    (ap (take n) (drop-drop by at l) ∙ ap (λ m. take m (drop (at + by) l)) r) in
     record {
-      is = h
-          ∙ ap (λ m. paste l to (drop from l) m) p
-          ∙ append_assoc (take to l) part (drop (to + n) l)
-          ∙ ap (λ x. take to l ++ (part ++ x)) (sym (drop-drop n to l))
-          ∙ ap (λ m. take to l ++ (part ++ drop m (drop to l))) q
+      is = (λ d. take at l ++ (is d ++ drop (size d) X))
+          ∙ ap (λ x. take at l ++ x) (append_assoc back (drop n T) (drop (by + n) X))
+          ∙ ap (λ x. take at l ++ (back ++ x)) (rest ∙ ap (λ m. drop m X) q)
           ∙ c.is;
     }

@@ -11,17 +11,21 @@ use values::cash::Cash;
 use values::limit::{BOX_SLOTS, MAX_MESSAGE};
 use values::refusal::Refusal;
 
-// The three messages after slot i move down one place: texts, lengths and sums.
+// The bytes that the texts of a box take.
+const BOX_TEXTS: usize = BOX_SLOTS * MAX_MESSAGE;
+
+// The three messages after slot i move down one place: texts, lengths and sums. The copy goes over a box's part of the
+// row, where the compiler sees which way it goes; over the whole row it took twice as long.
 fn move_down(bytes: &mut [u8], words: &mut [u32], i: usize)
     requires { MoveAsks bytes.old words.old i }
     ensures { Moved bytes.old words.old i bytes.new words.new }
 {
     let text = TEXT + i * MAX_MESSAGE;
-    bytes.copy_within(text + MAX_MESSAGE..text + BOX_SLOTS * MAX_MESSAGE, text);
+    bytes[text..text + BOX_TEXTS].copy_within(MAX_MESSAGE..BOX_TEXTS, 0);
     let length = LENGTH + i;
-    bytes.copy_within(length + 1..length + BOX_SLOTS, length);
+    bytes[length..length + BOX_SLOTS].copy_within(1..BOX_SLOTS, 0);
     let sum = SUM + i;
-    words.copy_within(sum + 1..sum + BOX_SLOTS, sum);
+    words[sum..sum + BOX_SLOTS].copy_within(1..BOX_SLOTS, 0);
 }
 
 // The oldest message of the caller, in slot me: its bytes to the buffer's front, its sum to the caller's cash.
