@@ -1,24 +1,29 @@
 // An object out of the chain of objects.
-ghost use Rattle.std.specs.Prelude.{◌≡◌};
+ghost use Rattle.std.specs.Prelude.{◌≡◌, ◌≢◌, ◌<◌, ℕ, get_or, length};
 ghost use Rattle.call_ending.specs.Links.{before, unlinked, ObjectAsks};
 
 use crate::blocks::instead;
-use layout::{NEXT_OBJECT, OBJECTS, slot};
+use layout::{NEXT_OBJECT, OBJECTS};
 use values::limit::MAX_OBJECTS;
 
-// The slot of the object before that in slot o, 0 if it is the first.
+// The last place of a link in a row, 0 if it stands nowhere behind the first.
+fn last_place(row: &[u16], o: usize) -> usize
+    requires { 0 < length row.now }
+    ensures in_row { result < length row.now }
+    ensures stands { result ≢ 0 → get_or row.now result 0 ≡ o }
+    ensures nowhere_behind { (j : ℕ) → result < j → j < length row.now → get_or row.now j 0 ≢ o }
+{
+    row.iter()
+        .rposition(|next| usize::from(*next) == o)
+        .unwrap_or(0)
+}
+
+// The slot of the object before that in slot o, 0 if it is the first: cell 0 of the row is no object's.
 fn before(links: &[u16], o: usize) -> usize
     requires { ObjectAsks links.now o }
     ensures { result ≡ before links.now o }
 {
-    let mut i: usize = MAX_OBJECTS;
-    while 0 < i {
-        if slot(links[NEXT_OBJECT + i]) == o {
-            return i;
-        }
-        i -= 1;
-    }
-    0
+    last_place(&links[NEXT_OBJECT..=NEXT_OBJECT + MAX_OBJECTS], o)
 }
 
 // The one before it, or the head, is linked to the one after it.

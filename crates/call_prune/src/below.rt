@@ -4,21 +4,21 @@ ghost use Rattle.std.specs.Prelude.{◌≡◌};
 ghost use Rattle.call_prune.specs.Links.{pruned_links, NamesSlots, LivingCap, TurnLeaves};
 
 use crate::leaf::drop_leaf;
-use layout::{FIRST_CHILD, PARENT, slot};
+use layout::{FIRST_CHILD, PARENT};
 
 // One turn at slot j: down to its first child, or up from it once it has ended; 0 where k itself is a leaf.
 fn turn(links: &mut [u16], k: usize, j: usize) -> usize
     requires { NamesSlots links.old j }
     ensures { TurnLeaves links.old k j links.new result }
 {
-    let child = slot(links[FIRST_CHILD + j]);
+    let child = usize::from(links[FIRST_CHILD + j]);
     if child != 0 {
         return child;
     }
     if j == k {
         return 0;
     }
-    let up = slot(links[PARENT + j]);
+    let up = usize::from(links[PARENT + j]);
     drop_leaf(links, j);
     up
 }

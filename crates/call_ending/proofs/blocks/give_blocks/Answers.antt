@@ -2,7 +2,6 @@
 use Prim.Native.Nat.{◌≤◌}
 use native.Mathlib.Omega.{arith}
 use Rattle.call_ending.proofs.Walking.{last-high, given_is}
-use borrow.Author.Rules.{rules}
 use Rattle.call_ending.proofs.blocks.give_blocks.Goals as goal
 use Rattle.call_ending.proofs.blocks.give_blocks.Goals.{After-instead-head}
 

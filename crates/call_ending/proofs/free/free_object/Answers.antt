@@ -3,7 +3,6 @@ use mathlib.Core.Path.{refl}
 use native.Mathlib.Omega.{arith}
 use lib.ListN.{length-set}
 use Rattle.call_ending.specs.Links.{freed_object}
-use borrow.Author.Rules.{rules}
 use Rattle.call_ending.proofs.free.free_object.Goals as goal
 
 pub bounds-links-o-2 : goal.bounds-links-o-2

@@ -2,7 +2,6 @@
 use Prim.Native.Nat.{◌≤◌}
 use native.Mathlib.Omega.{arith}
 use Rattle.call_ending.proofs.Walking.{before-high, unlinked-is}
-use borrow.Author.Rules.{rules}
 use Rattle.call_ending.proofs.object.unlink.Goals as goal
 use Rattle.call_ending.proofs.object.unlink.Goals.{After-before-i}
 
