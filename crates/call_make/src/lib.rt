@@ -11,7 +11,7 @@ use crate::make::place;
 use crate::space::no_space;
 use call_steps::objects::find_object;
 use call_steps::request::{Reply, Request};
-use layout::{FREE_OBJECTS, slot};
+use layout::FREE_OBJECTS;
 use values::blocks::blocks_of;
 use values::code::{NO_SPACE, TAKEN};
 
@@ -28,14 +28,14 @@ pub fn make_obj(bytes: &mut [u8], links: &mut [u16], words: &mut [u32], req: Req
         req.flag req.rights (password_of req.drawn)) }
 {
     let name = req.name;
-    if find_object(bytes, links, name) == 0 {
-        if no_space(links, blocks_of(req.size) as usize) {
-            return Reply::refused(NO_SPACE);
-        }
-        let o = slot(links[FREE_OBJECTS]);
-        place(bytes, links, words, o, req);
-        let drawn = req.drawn;
-        return Reply::hands_back(name, drawn);
+    if find_object(bytes, links, name) != 0 {
+        return Reply::refused(TAKEN);
     }
-    Reply::refused(TAKEN)
+    if no_space(links, blocks_of(req.size) as usize) {
+        return Reply::refused(NO_SPACE);
+    }
+    let o = usize::from(links[FREE_OBJECTS]);
+    place(bytes, links, words, o, req);
+    let drawn = req.drawn;
+    Reply::hands_back(name, drawn)
 }
