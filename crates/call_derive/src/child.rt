@@ -1,24 +1,16 @@
 // "The child has .. the rights in both sets, and each end of the range moved to the nearest point of the parent's window."
 // 02, CR 1: "The child's moneyword is the smaller of the limit and the parent's moneyword." CR 9, of the last day given:
 // "the child has the smaller of it and the parent's".
-ghost use Rattle.std.specs.Prelude.{◌≡◌, min};
 ghost use Rattle.values.specs.Words.{password_of, window_of};
 ghost use Rattle.call_grow.specs.Made.{cap_of};
 ghost use Rattle.call_derive.specs.Runs.{ChildAsks, IsChild, AddAsks, Adds};
 
 use call_grow::cap::{NewCap, new_cap};
 use call_steps::target::window_at;
-use layout::{FIRST_CHILD, LAST_DAY, MONEY, OWNER, PREV_CAP, RIGHTS, slot};
+use layout::{FIRST_CHILD, LAST_DAY, MONEY, OWNER, PREV_CAP, RIGHTS};
 use values::moneyword::Moneyword;
 use values::rights::Rights;
 use values::window::Window;
-
-// The smaller of two days.
-fn earlier(day: u16, other: u16) -> u16
-    ensures { result ≡ min day other }
-{
-    if day < other { day } else { other }
-}
 
 // The child of the capability in slot k with these rights, this range, this password and this last day; its next sibling is
 // to be the first child.
@@ -47,7 +39,7 @@ pub(crate) fn child_of(
         rights: own.both(asked),
         password: drawn,
         window: window.moved(range),
-        last_day: earlier(given, parents),
+        last_day: given.min(parents),
     }
 }
 
@@ -57,7 +49,7 @@ pub(crate) fn add_child(links: &mut [u16], words: &mut [u32], k: usize, x: NewCa
     ensures { Adds links.old words.old k (cap_of x) x.next limit
         links.new words.new }
 {
-    let next = slot(x.next);
+    let next = usize::from(x.next);
     let amount = words[MONEY + k];
     let purse = Moneyword(amount).at_most(limit);
     let i = new_cap(links, words, x, purse);

@@ -10,7 +10,7 @@ use crate::child::{add_child, child_of};
 use call_steps::objects::name_at;
 use call_steps::request::Reply;
 use call_steps::taken::p1_taken;
-use layout::{FREE_CAPS, OWNER, slot};
+use layout::{FREE_CAPS, OWNER};
 use values::code::{NO_SPACE, TAKEN};
 use values::window::Window;
 
@@ -33,7 +33,7 @@ pub fn derive_cap(
         (derive_run bytes.now links.old words.old k rights (window_of range)
         (password_of drawn) limit last_day) }
 {
-    let o = slot(links[OWNER + k]);
+    let o = usize::from(links[OWNER + k]);
     if p1_taken(links, words, o, drawn[0]) {
         return Reply::refused(TAKEN);
     }

@@ -3,20 +3,19 @@ use Rattle.values.specs.Words.{password_of, window_of}
 use Rattle.call_steps.specs.Request.{name_of}
 use Rattle.call_derive.proofs.Stops.{Tested, owner-is, object-is, stopped-12, stopped-13, goes_on}
 use native.Mathlib.Omega.{arith}
-use borrow.Author.Rules.{rules}
 use Rattle.call_derive.proofs.derive_cap.Goals as goal
 use Rattle.call_derive.proofs.derive_cap.Goals.{After-p1_taken}
 
-tested : (c : After-p1_taken) → Tested c.args.bytes.now c.args.links.now c.args.words.now c.args.k c.slot-o.result (password_of c.args.drawn).p1 c.p1_taken.result
+tested : (c : After-p1_taken) → Tested c.args.bytes.now c.args.links.now c.args.words.now c.args.k c.from-o.result (password_of c.args.drawn).p1 c.p1_taken.result
 tested c = record {
   slot = c.requires.slot;
-  object = c.slot-o.ensures;
+  object = c.from-o.ensures;
   test = c.p1_taken.ensures c.args.bytes.now;
 }
 
 pub p1_taken-requires : goal.p1_taken-requires
 p1_taken-requires c =
-    let o = owner-is c.args.links.now c.args.k c.requires.slot c.slot-o.ensures in record {
+    let o = owner-is c.args.links.now c.args.k c.requires.slot c.from-o.ensures in record {
       fact_1 = record { links = c.requires.sized.links; words = c.requires.sized.words };
       fact_2 = rw o c.requires.object.low;
     }
