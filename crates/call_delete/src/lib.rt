@@ -9,7 +9,7 @@ use call_prune::below::prune_below;
 use call_prune::delete::delete_child;
 use call_prune::scratch::clear;
 use call_steps::request::Reply;
-use layout::{OWNER, PARENT, slot};
+use layout::{OWNER, PARENT};
 
 // Of a master, in slot k: all below it end, then its object and it.
 fn delete_master(bytes: &[u8], links: &mut [u16], words: &mut [u32], k: usize)
@@ -17,7 +17,7 @@ fn delete_master(bytes: &[u8], links: &mut [u16], words: &mut [u32], k: usize)
     ensures { MasterEnds bytes.now links.old words.old k
         links.new words.new }
 {
-    let o = slot(links[OWNER + k]);
+    let o = usize::from(links[OWNER + k]);
     prune_below(links, k);
     end_object(bytes, links, words, o, k);
 }

@@ -11,7 +11,7 @@ use call_prune::scratch::clear;
 use call_steps::objects::name_at;
 use call_steps::request::Reply;
 use call_steps::taken::p1_taken;
-use layout::{OWNER, P1, P2, PARENT, slot};
+use layout::{OWNER, P1, P2, PARENT};
 use values::code::{NOT_MASTER, TAKEN};
 
 // All below k end, and its record holds the new master: only the password differs.
@@ -39,11 +39,10 @@ pub fn rename_obj(
     ensures { Renames bytes.now links.old words.old scratch.old k
         (password_of drawn) result links.new words.new scratch.new }
 {
-    let parent = slot(links[PARENT + k]);
-    if parent != 0 {
+    if links[PARENT + k] != 0 {
         return Reply::refused(NOT_MASTER);
     }
-    let o = slot(links[OWNER + k]);
+    let o = usize::from(links[OWNER + k]);
     if p1_taken(links, words, o, drawn[0]) {
         return Reply::refused(TAKEN);
     }

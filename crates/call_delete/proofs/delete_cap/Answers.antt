@@ -1,7 +1,6 @@
 -- `delete_cap` clears the scratch, and goes by whether the capability is a master.
 use mathlib.Core.Path.{◌∙◌}
 use Rattle.call_delete.proofs.Asking.{parent-cell, child, of-child, of-master, deletes}
-use borrow.Author.Rules.{rules}
 use Rattle.call_delete.proofs.delete_cap.Goals as goal
 
 pub delete_master-requires : goal.delete_master-requires

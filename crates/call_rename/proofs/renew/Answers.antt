@@ -2,7 +2,6 @@
 use mathlib.Core.Path.{refl}
 use native.Mathlib.Omega.{arith}
 use lib.ListN.{length-set}
-use borrow.Author.Rules.{rules}
 use Rattle.call_rename.specs.Runs.{renamed_words}
 use Rattle.call_rename.proofs.Stops.{slot_of}
 use Rattle.call_rename.proofs.renew.Goals as goal
