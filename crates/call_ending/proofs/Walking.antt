@@ -102,9 +102,9 @@ module _ {l : List ℕ} {o : ℕ} (a : BlocksAsk l o) where
   unfolding last_block hop
   last_none z = rw z (head-none 512 (next_block_of l) (first_block_of l o) a.chain.0 a.chain.1 (a.chain.2 ∙ z))
 
-  pub last-high : last_block l o ≤ 512
+  pub last_high : last_block l o ≤ 512
   unfolding last_block
-  last-high = by-eq (blocks (size_of l o)) 0
+  last_high = by-eq (blocks (size_of l o)) 0
       (λ z. omega (arith, last_none z))
       (λ nz. (hop-block (next_block_of l) (first_block_of l o) a.chain.0 a.chain.1 (blocks (size_of l o) - 1)
       (omega (arith, a.chain.2))).1)
@@ -134,9 +134,9 @@ module _ {l : List ℕ} {o : ℕ} (a : BlocksAsk l o) where
 
 -- ---- the object before
 
-pub before-high : (l : List ℕ) (o : ℕ) → before l o ≤ 64
+pub before_high : (l : List ℕ) (o : ℕ) → before l o ≤ 64
 unfolding before
-before-high l o = find-le (is_before l o) 64
+before_high l o = find-le (is_before l o) 64
 
 -- the objects' row of links is o's only up to place r, where o stands unless r is 0
 pub before-found : (l : List ℕ) (o r : ℕ) → length l ≡ Layout.LINKS → let row : List ℕ = take 65 (drop Layout.NEXT_OBJECT l) in

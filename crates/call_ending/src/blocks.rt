@@ -20,10 +20,12 @@ fn last_block(links: &[u16], o: usize) -> usize
 {
     let first = usize::from(links[FIRST_BLOCK + o]);
     let n = blocks_of(u32::from(links[SIZE + o]));
+    // kept: `as` in last_block: a usize has no From of a u32
     block_at(links, first, n.saturating_sub(1) as usize)
 }
 
 // The last one is linked to the free ones, and the first is the head.
+#[tactic(auto, using(crate::proofs::Walking::last_high))]
 pub(crate) fn give_blocks(links: &mut [u16], o: usize)
     requires { BlocksAsk links.old o }
     ensures { links.new ≡ given_blocks links.old o }

@@ -17,6 +17,7 @@ fn holdings(bytes: &[u8], words: &[u32], o: usize) -> Cash
         return Cash(0);
     }
     let sums = sums_from(words, usize::from(bytes[COUNT + o]), o * BOX_SLOTS);
+    // kept: `as` in holdings, where TryFrom would be a failure that HoldsAsk rules out
     Cash(words[CASH + o] + sums as u32)
 }
 

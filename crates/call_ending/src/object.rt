@@ -18,7 +18,8 @@ fn last_place(row: &[u16], o: usize) -> usize
         .unwrap_or(0)
 }
 
-// The slot of the object before that in slot o, 0 if it is the first: cell 0 of the row is no object's.
+// The slot of the object before that in slot o, 0 if it is the first.
+// kept: 0 in place of an Option in before, since unlink stores to the row's cell 0 then, which is no object's
 fn before(links: &[u16], o: usize) -> usize
     requires { ObjectAsks links.now o }
     ensures { result ≡ before links.now o }
@@ -27,11 +28,13 @@ fn before(links: &[u16], o: usize) -> usize
 }
 
 // The one before it, or the head, is linked to the one after it.
+#[tactic(auto, using(crate::proofs::Walking::before_high))]
 pub(crate) fn unlink(links: &mut [u16], o: usize)
     requires { ObjectAsks links.old o }
     ensures { links.new ≡ unlinked links.old o }
 {
     let next = links[NEXT_OBJECT + o];
+    // kept: `as` in unlink, where TryFrom would be a failure that ObjectAsks rules out
     let head = instead(links[OBJECTS], o as u16, next);
     let i = before(links, o);
     links[NEXT_OBJECT + i] = next;
