@@ -25,6 +25,7 @@ fn master_of(o: usize, req: Request) -> NewCap
     ensures { IsNewMaster o req.size req.rights (password_of req.drawn) result }
 {
     let drawn = req.drawn;
+    // kept: `as` in master_of and record, where TryFrom would be a failure that MasterAsks and RecordAsks rule out
     NewCap {
         object: o as u16,
         parent: 0,
