@@ -12,8 +12,8 @@ returns c =
     let a = c.args in
     let at = c.requires.slot in
     record {
-      cap = child-cells a.links.now a.words.now a.k a.rights (window_of a.range) (password_of a.drawn)
-          a.last_day at _ _ _ (c.moved.ensures ∙ ap (moved (window_of a.range)) c.window_at-window.ensures)
+      cap = child-cells a.links.now a.words.now a.k a.req.rights (window_of a.req.range) (password_of a.req.drawn)
+          a.req.last_day at _ _ _ (c.moved.ensures ∙ ap (moved (window_of a.req.range)) c.window_at-window.ensures)
           c.both.ensures c.min.ensures;
       next = sym (row Layout.FIRST_CHILD a.links.now a.k at);
     }
