@@ -8,7 +8,7 @@ use call_ending::end::end_object;
 use call_prune::below::prune_below;
 use call_prune::delete::delete_child;
 use call_prune::scratch::clear;
-use call_steps::request::Reply;
+use call_steps::request::{Given, Reply};
 use layout::{OWNER, PARENT};
 
 // Of a master, in slot k: all below it end, then its object and it.
@@ -37,8 +37,8 @@ pub fn delete_cap(
     clear(scratch);
     if links[PARENT + k] == 0 {
         delete_master(bytes, links, words, k);
-        return Reply::done();
+    } else {
+        delete_child(links, k);
     }
-    delete_child(links, k);
-    Reply::done()
+    Ok(Given::done())
 }
