@@ -73,6 +73,7 @@ pub(crate) fn enter(
     let at = place_of(field(bytes, MAX_OBJECTS, VOLUME, o), serial);
     let head = heads[at];
     let new = name_is_new(bytes, links, next, o, usize::from(head));
+    // kept: a slot is 64 at the most; `try_from` would give `enter` a refusal that it cannot have.
     heads[at] = o as u8;
     next[o] = head;
     new

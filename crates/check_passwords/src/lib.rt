@@ -17,6 +17,7 @@ use values::limit::MAX_CAPS;
 fn bucket_of(owner: u16, p1: u32) -> usize
     ensures { (result ≡ bucket owner p1) × (result < 1024) }
 {
+    // kept: `usize` has no From<u32>, so `bucket_of` casts p1.
     (p1 as usize * 3242174889 / 4194304 + usize::from(owner) * 583) % 1024
 }
 
@@ -64,6 +65,7 @@ pub fn enter(links: &[u16], words: &[u32], heads: &mut [u16], next: &mut [u16], 
     let at = bucket_of(owner, field(words, MAX_CAPS, P1, i));
     let head = heads[at];
     let new = password_is_new(links, words, next, i, usize::from(head));
+    // kept: a slot is 512 at the most; `try_from` would give `enter` a refusal that it cannot have.
     heads[at] = i as u16;
     next[i] = head;
     new

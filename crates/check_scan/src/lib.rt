@@ -38,6 +38,7 @@ fn list_living(links: &[u16], list: &mut [u16]) -> usize
 {
     let mut n: usize = 0;
     for i in (1..=MAX_CAPS).rev() {
+        // kept: a slot is 512 at the most; `try_from` would give `list_living` a refusal that it cannot have.
         list[n] = i as u16;
         n = next_place(links, i, n);
     }
