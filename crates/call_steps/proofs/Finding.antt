@@ -3,14 +3,15 @@ use Prim.Native.Nat.{ℕ, zero, suc, ◌+◌, ◌-◌, ◌≤◌, ◌<◌}
 use mathlib.Core.Path.{◌≡◌, refl, sym, ap, ap₂, ◌∙◌, subst}
 use mathlib.Core.Logic.{◌≢◌}
 use mathlib.Core.List.{List}
-use mathlib.Core.Bool.{Bool, true, false, ◌||◌, false≢true}
+use mathlib.Core.Bool.{Bool, true, false, not, ◌||◌, false≢true, true≢false}
 use native.Mathlib.Omega.{arith}
 use lib.Dec.{eqb}
 use lib.ListN.{get_or}
 use Rattle.rules.specs.Slots.{find, some}
 use Rattle.rules.proofs.Tests.{by-eq, by_bool, refuted}
 use Rattle.rules.proofs.Slots.{find-finds, some-none}
-use Rattle.call_steps.specs.Tests.{SameFrom, cell_is}
+use Rattle.std.specs.Prelude.{Option, Some, None, is_some}
+use Rattle.call_steps.specs.Tests.{SameFrom, cell_is, slot_found}
 use borrow.Author.Tests.{eq-eqb, ne_eqb}
 
 or-true : (a : Bool) → (a || true) ≡ true
@@ -20,6 +21,28 @@ or-true false = refl
 or-false : (a : Bool) → (a || false) ≡ a
 or-false true = refl
 or-false false = refl
+
+pub slot-is-some : (n : ℕ) → is_some (slot_found n) ≡ not (eqb n 0)
+slot-is-some zero = refl
+slot-is-some (suc n) = rw (ne_eqb (suc n) 0 (omega arith))
+
+-- a slot is found where it is not 0
+pub slot-some : (i : ℕ) → 1 ≤ i → Some i ≡ slot_found i
+slot-some zero h = absurd (omega arith)
+slot-some (suc n) h = refl
+
+abbrev slot_or_0 : Option ℕ → ℕ
+slot_or_0 None = 0
+slot_or_0 (Some i) = i
+
+-- what is found, and that it is not 0; or that it is
+pub slot_of : (n i : ℕ) → Some i ≡ slot_found n → (i ≡ n) × (1 ≤ i)
+slot_of zero i e = absurd (true≢false (ap is_some e))
+slot_of (suc n) i e = let q : i ≡ suc n = ap slot_or_0 e in (q, omega (arith, q))
+
+pub slot_none : (n : ℕ) → None ≡ slot_found n → n ≡ 0
+slot_none zero e = refl
+slot_none (suc n) e = absurd (false≢true (ap is_some e))
 
 module _ (t : ℕ → Bool) where
   -- a slot that passes the test is found, one that fails is passed over
@@ -92,6 +115,18 @@ module _ (t : ℕ → Bool) where
 
     pub same_end : i ≡ 0 → 0 ≡ find n t
     same_end e = sym (now.same ∙ find-end i e)
+
+    -- slot i passes, and is found
+    pub found-at : 1 ≤ i → t i ≡ true → Some i ≡ slot_found (find n t)
+    found-at low e = slot-some i low ∙ ap slot_found (same-found low e)
+
+    -- none is left
+    pub found-none : i ≡ 0 → None ≡ slot_found (find n t)
+    found-none e = ap slot_found (same_end e)
+
+    -- of a loop that counts down, its counter one above
+    pub before : SameFrom t n (i + 1 - 1)
+    before = let q : i ≡ i + 1 - 1 = omega arith in subst (SameFrom t n) q now
 
 -- where all that pass t pass u, t finds the same among those that pass u
 module _ (t u : ℕ → Bool) where

@@ -1,5 +1,5 @@
 -- The rules' tests of one slot, each by its name, and the slots of which the code asks them.
-use Rattle.std.specs.Prelude.{ℕ, ◌+◌, ◌≤◌, ◌≡◌, Bool, not, ◌&&◌, ◌||◌, List, eqb, get_or}
+use Rattle.std.specs.Prelude.{ℕ, zero, suc, Option, Some, None, ◌+◌, ◌≤◌, ◌≡◌, Bool, not, ◌&&◌, ◌||◌, List, eqb, get_or}
 use Rattle.rules.specs.Limit as Limit
 use Rattle.rules.specs.Slots.{find}
 use Rattle.rules.specs.Store.{Name, State, same_name}
@@ -37,3 +37,8 @@ cell_is off l x k = eqb (get_or l (off + k) 0) x
 pub record SameFrom (t : ℕ → Bool) (n r : ℕ) : Type 0 where
   pub high : r ≤ n
   pub same : find n t ≡ find r t
+
+-- a slot that is found, where 0 is none
+abbrev pub slot_found : ℕ → Option ℕ
+slot_found zero = None
+slot_found (suc n) = Some (suc n)

@@ -3,7 +3,7 @@ ghost use Rattle.std.specs.Prelude.{◌≡◌, ◌+◌, ◌≤◌, length};
 ghost use Rattle.rules.specs.Limit as Limit;
 ghost use Rattle.rules.specs.Slots.{find, some};
 ghost use Rattle.layout.specs.Layout;
-ghost use Rattle.call_steps.specs.Tests.{group, cell_is, SameFrom};
+ghost use Rattle.call_steps.specs.Tests.{group, cell_is, SameFrom, slot_found};
 
 use layout::{P1, SERIAL};
 use values::limit::{MAX_OBJECTS, MAX_SERIAL};
@@ -19,11 +19,9 @@ fn any_p1(words: &[u32], base: usize, p1: u32) -> bool
     ensures { result ≡ some group (λ j. cell_is Layout.P1 words.now p1 (base + j)) }
 {
     let mut any = false;
-    let mut j: usize = 0;
-    while j < GROUP {
-        j += 1;
-        let k = base + j;
-        any = any | (words[P1 + k] == p1);
+    for j in 0..GROUP {
+        let k = base + (j + 1);
+        any |= words[P1 + k] == p1;
     }
     any
 }
@@ -44,20 +42,19 @@ fn skip_p1s(words: &[u32], n: usize, p1: u32) -> usize
     i
 }
 
-// The last slot of 1 to n with this p1, 0 if there is none.
-pub(crate) fn last_p1(words: &[u32], n: usize, p1: u32) -> usize
+// The last slot of 1 to n with this p1.
+pub(crate) fn last_p1(words: &[u32], n: usize, p1: u32) -> Option<usize>
     requires fact_1 { length words.now ≡ Layout.WORDS }
     requires fact_2 { n ≤ Limit.caps }
-    ensures { result ≡ find n (cell_is Layout.P1 words.now p1) }
+    ensures { result ≡ slot_found (find n (cell_is Layout.P1 words.now p1)) }
 {
-    let mut i = skip_p1s(words, n, p1);
-    while 0 < i {
+    let last = skip_p1s(words, n, p1);
+    for i in (1..last + 1).rev() {
         if words[P1 + i] == p1 {
-            return i;
+            return Some(i);
         }
-        i -= 1;
     }
-    0
+    None
 }
 
 // Some object slot of the group after base has this serial.
@@ -67,11 +64,9 @@ fn any_serial(links: &[u16], base: usize, serial: u16) -> bool
     ensures { result ≡ some group (λ j. cell_is Layout.SERIAL links.now serial (base + j)) }
 {
     let mut any = false;
-    let mut j: usize = 0;
-    while j < GROUP {
-        j += 1;
-        let k = base + j;
-        any = any | (links[SERIAL + k] == serial);
+    for j in 0..GROUP {
+        let k = base + (j + 1);
+        any |= links[SERIAL + k] == serial;
     }
     any
 }

@@ -1,7 +1,7 @@
 // Cash pays fees. Nothing here turns it into a moneyword.
 ghost use Rattle.std.specs.Prelude.{◌≡◌, ◌-◌, ltb};
 
-#[derive(Clone, Copy)]
+#[derive(Clone, Copy, Debug, PartialEq, Eq)]
 pub struct Cash(pub u32);
 
 impl Cash {
@@ -16,10 +16,6 @@ impl Cash {
     pub fn less(self, sum: u32) -> Cash
         ensures { result.0 ≡ self.0 - sum }
     {
-        if sum <= self.0 {
-            Cash(self.0 - sum)
-        } else {
-            Cash(0)
-        }
+        Cash(self.0.saturating_sub(sum))
     }
 }

@@ -10,5 +10,6 @@ pub mod limit;
 pub mod moneyword;
 pub mod number;
 pub mod password;
+pub mod refusal;
 pub mod rights;
 pub mod window;

@@ -2,7 +2,7 @@
 ghost use Rattle.std.specs.Prelude.{◌≡◌};
 ghost use Rattle.rules.specs.Rights.{is_right, has, both, asked, op};
 
-#[derive(Clone, Copy)]
+#[derive(Clone, Copy, Debug, PartialEq, Eq)]
 pub struct Rights(pub u16);
 
 impl Rights {
@@ -38,14 +38,7 @@ impl Rights {
     pub fn is_right(number: u32) -> bool
         ensures { result ≡ is_right number }
     {
-        let mut i: usize = 0;
-        while i < 13 {
-            if THIRTEEN[i] == number {
-                return true;
-            }
-            i += 1;
-        }
-        false
+        THIRTEEN.contains(&number)
     }
 
     // These rights hold the right.

@@ -7,11 +7,11 @@ use Rattle.check_caps.proofs.is_whole.Goals as goal
 pub returns-then-start-ne0 : goal.returns-then-start-ne0
 returns-then-start-ne0 c = no-it (λ h. c.if-start-ne0.true h.0)
 
-pub returns-then-link : goal.returns-then-link
-returns-then-link c = no-it (λ h. c.if-link.true (c.link.ensures ∙ h.2))
+pub returns-then-field : goal.returns-then-field
+returns-then-field c = no-it (λ h. c.if-field.true (c.field.ensures ∙ h.2))
 
 pub returns : goal.returns
 returns c =
-    as-well (equal c.args.end c.link-size.result)
-    (λ e. (omega arith, e ∙ c.link-size.ensures, sym c.link.ensures ∙ c.if-link.false))
-    (λ h. h.1 ∙ sym c.link-size.ensures)
+    as-well (equal c.args.end c.from.result)
+    (λ e. (omega arith, omega (arith, e, c.from.ensures, c.field-2.ensures), sym c.field.ensures ∙ c.if-field.false))
+    (λ h. omega (arith, h.1, c.from.ensures, c.field-2.ensures))

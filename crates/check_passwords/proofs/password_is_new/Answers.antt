@@ -5,7 +5,7 @@ use Rattle.layout.proofs.Deciding.{refuted}
 use Rattle.check_passwords.proofs.password_is_new.Goals as goal
 
 pub loop-j-init : goal.loop-j-init
-loop-j-init c = along-start _ c.requires.fact_2
+loop-j-init c = along-start _ c.requires.chain
 
 pub returns-then-same_password : goal.returns-then-same_password
 returns-then-same_password c =
@@ -20,16 +20,13 @@ bounds-next-j c =
     let now = c.loop-j.invariant in
     omega (arith, along-in now c.loop-j-test.true, now.links.size)
 
-pub overflow_cast-j : goal.overflow_cast-j
-overflow_cast-j c = omega (arith, c.type_inv.next c.loop-j.j)
-
 pub loop-j-smaller : goal.loop-j-smaller
-loop-j-smaller c = left-falls c.loop-j.invariant c.loop-j-test.true
+loop-j-smaller c = rw c.from-j.ensures (left-falls c.loop-j.invariant c.loop-j-test.true)
 
 pub loop-j-preserved : goal.loop-j-preserved
 loop-j-preserved c =
-    along-on c.loop-j.invariant c.loop-j-test.true
-    (refuted c.same_password.ensures c.if-same_password.false)
+    rw c.from-j.ensures (along-on c.loop-j.invariant c.loop-j-test.true
+    (refuted c.same_password.ensures c.if-same_password.false))
 
 pub returns : goal.returns
 returns c = along-end c.loop-j.invariant c.loop-j-test.false

@@ -3,15 +3,15 @@ use native.Mathlib.Omega.{arith}
 use Rattle.layout.proofs.Deciding.{no-it, as-well, equal}
 use Rattle.check_passwords.proofs.same_password.Goals as goal
 
-pub returns-then-word : goal.returns-then-word
-returns-then-word c = no-it (λ h. omega (arith, c.if-word.true, h.p1))
+pub returns-then-field : goal.returns-then-field
+returns-then-field c = no-it (λ h. omega (arith, c.if-field.true, h.p1))
 
 pub returns-then-owner-eq0 : goal.returns-then-owner-eq0
 returns-then-owner-eq0 c = no-it (λ h. h.here (omega arith))
 
 pub returns : goal.returns
 returns c =
-    as-well (equal c.link-owner.result c.link.result)
+    as-well (equal c.field-owner.result c.field-3.result)
     (λ e. record {
       here = λ z. omega arith;
       there = λ z. omega arith;

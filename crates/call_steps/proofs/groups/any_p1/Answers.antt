@@ -8,24 +8,6 @@ use Rattle.call_steps.proofs.groups.any_p1.Goals as goal
 pub loop-j-init : goal.loop-j-init
 loop-j-init c = (omega arith, sym (some-zero _))
 
-pub overflow_add-j : goal.overflow_add-j
-overflow_add-j c = omega arith
-
-pub overflow_add-k : goal.overflow_add-k
-overflow_add-k c = omega arith
-
-pub overflow_add-any : goal.overflow_add-any
-overflow_add-any c = omega arith
-
-pub offset_bounds-words-k : goal.offset_bounds-words-k
-offset_bounds-words-k c = omega arith
-
-pub bounds-words-k : goal.bounds-words-k
-bounds-words-k c = omega arith
-
-pub loop-j-smaller : goal.loop-j-smaller
-loop-j-smaller c = omega arith
-
 pub loop-j-preserved : goal.loop-j-preserved
 loop-j-preserved c = (omega arith, any-on Layout.P1 _ _ _ _ _ _ _ c.loop-j.invariant.1 refl refl)
 

@@ -5,7 +5,7 @@ use Rattle.layout.proofs.Deciding.{refuted}
 use Rattle.check_objects.proofs.names.name_is_new.Goals as goal
 
 pub loop-q-init : goal.loop-q-init
-loop-q-init c = along-start _ c.requires.fact_2
+loop-q-init c = along-start _ c.requires.chain
 
 pub returns-then-same_name : goal.returns-then-same_name
 returns-then-same_name c =
@@ -17,16 +17,13 @@ bounds-next-q c =
     let now = c.loop-q.invariant in
     omega (arith, along-in now c.loop-q-test.true, now.links.size)
 
-pub overflow_cast-q : goal.overflow_cast-q
-overflow_cast-q c = omega (arith, c.type_inv.next c.loop-q.q)
-
 pub loop-q-smaller : goal.loop-q-smaller
-loop-q-smaller c = left-falls c.loop-q.invariant c.loop-q-test.true
+loop-q-smaller c = rw c.from-q.ensures (left-falls c.loop-q.invariant c.loop-q-test.true)
 
 pub loop-q-preserved : goal.loop-q-preserved
 loop-q-preserved c =
-    along-on c.loop-q.invariant c.loop-q-test.true
-    (refuted c.same_name.ensures c.if-same_name.false)
+    rw c.from-q.ensures (along-on c.loop-q.invariant c.loop-q-test.true
+    (refuted c.same_name.ensures c.if-same_name.false))
 
 pub returns : goal.returns
 returns c = along-end c.loop-q.invariant c.loop-q-test.false
