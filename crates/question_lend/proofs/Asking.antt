@@ -21,14 +21,8 @@ use Rattle.rules.specs.Questions.{FirstOf, NoneOf, LendAsked}
 use Rattle.rules.specs.Theorems.{lendable, LendDecided}
 use Rattle.rules.proofs.Tests.{both_true, all2, all3}
 use Rattle.rules.proofs.Theorems.{lend-decided}
-use Rattle.question_lend.specs.declared.Lent.{Lent}
-use Rattle.question_lend.specs.Asks.{lent_of}
 use Rattle.question_lend.specs.Places.{will_do}
 use Rattle.question_lend.proofs.Listing.{names}
-
-pub refused-one : (r : Lent) → lent_of r ≡ unlent Code.ill_formed → r.code ≡ Code.ill_formed
-unfolding unlent
-refused-one r e = ap (λ (a : Questions.Lent). a.code) e
 
 module _ (s : State) (caller : Store.Name) (l : List ℕ) (x : Wish) where
   pub asked-refused : (n : ℕ) (r : Questions.Lent) → first (lend_refuses s caller l x) ≡ n → n ≢ Code.done → r ≡ unlent n

@@ -28,8 +28,8 @@ use call_steps::target::window_at;
 use kernel_check::check;
 use layout::LAST_DAY;
 use list::{entry_at, list_fits};
-use values::code::{DONE, ILL_FORMED, NONE_WILL_DO, NOT_RUNNING, OUT_OF_RANGE};
 use values::limit::ENTRY_NUMBERS;
+use values::refusal::Refusal;
 use values::rights::Rights;
 use values::window::Window;
 
@@ -40,20 +40,6 @@ pub struct Wish {
     pub window: Window,
     pub sum: u32,
     pub last_day: u32,
-}
-
-// 0 or the refusal, and the place; a refusal's is 0.
-#[derive(Clone, Copy)]
-pub struct Lent {
-    pub code: u32,
-    pub place: u32,
-}
-
-// A refusal.
-fn refuse(code: u32) -> Lent
-    ensures { lent_of result ≡ unlent code }
-{
-    Lent { code, place: 0 }
 }
 
 // The last day of the capability in slot k is not before this one.
@@ -87,8 +73,10 @@ fn will_do(bytes: &[u8], links: &[u16], words: &[u32], me: usize, e: Capability,
     ensures { result
         ≡ will_do (view bytes.now links.now words.now) me (wish_of x) (capability_of e) }
 {
-    let a = admit(bytes, links, words, me, e, Rights::DERIVE_CAP);
-    a.code == DONE && lendable(links, words, a.slot, x)
+    match admit(bytes, links, words, me, e, Rights::DERIVE_CAP) {
+        Ok(k) => lendable(links, words, k, x),
+        Err(_) => false,
+    }
 }
 
 // The first place whose entry will do.
@@ -117,25 +105,31 @@ fn first_place(
 }
 
 // The question, on a store that is known to be plain.
-fn lend_of(bytes: &[u8], links: &[u16], words: &[u32], list: &[u32], caller: Name, x: Wish) -> Lent
+fn lend_of(
+    bytes: &[u8],
+    links: &[u16],
+    words: &[u32],
+    list: &[u32],
+    caller: Name,
+    x: Wish,
+) -> Result<u32, Refusal>
     requires { Plain bytes.now links.now words.now }
     ensures { LendAsked (view bytes.now links.now words.now)
         (name_of caller) list.now (wish_of x) (lent_of result) }
 {
-    if name_fits(caller) & list_fits(list) & derive_fits(x.rights, x.window, x.last_day) {
-        let me = find_object(bytes, links, caller);
-        if running(bytes, links, me) {
-            return match first_place(bytes, links, words, list, me, x) {
-                Some(place) => Lent {
-                    code: DONE,
-                    place: place as u32,
-                },
-                None => refuse(NONE_WILL_DO),
-            };
-        }
-        return refuse(NOT_RUNNING);
+    if !name_fits(caller) || !list_fits(list) || !derive_fits(x.rights, x.window, x.last_day) {
+        return Err(Refusal::OutOfRange);
     }
-    refuse(OUT_OF_RANGE)
+    let Some(me) = find_object(bytes, links, caller) else {
+        return Err(Refusal::NotRunning);
+    };
+    if !running(bytes, links, me) {
+        return Err(Refusal::NotRunning);
+    }
+    match first_place(bytes, links, words, list, me, x) {
+        Some(place) => Ok(place as u32),
+        None => Err(Refusal::NoneWillDo),
+    }
 }
 
 // The same on slices of any length and content.
@@ -146,11 +140,11 @@ pub fn ask_lend(
     list: &[u32],
     caller: Name,
     x: Wish,
-) -> Lent
+) -> Result<u32, Refusal>
     ensures { Asks bytes.now links.now words.now list.now caller x result }
 {
-    if check(bytes, links, words) {
-        return lend_of(bytes, links, words, list, caller, x);
+    if !check(bytes, links, words) {
+        return Err(Refusal::IllFormed);
     }
-    refuse(ILL_FORMED)
+    lend_of(bytes, links, words, list, caller, x)
 }

@@ -6,12 +6,9 @@ use native.Mathlib.Omega.{arith}
 use Rattle.rules.specs.Slots.{one, sum_over, count_over}
 use Rattle.layout.specs.View.{view}
 use Rattle.question_count.specs.Holding.{holds, holding_at}
-use Rattle.question_count.proofs.Counting.{holding-none, count-most, count-next}
+use Rattle.question_count.proofs.Counting.{count-most, count-next}
 use Rattle.question_count.proofs.held.Goals as goal
 use Rattle.question_count.proofs.held.Goals.{then-holds, else-holds}
-
-pub returns-then-o-eq0 : goal.returns-then-o-eq0
-returns-then-o-eq0 c b w = holding-none _ _ _ c.if-o-eq0.true
 
 pub loop-i-init : goal.loop-i-init
 unfolding count_over sum_over
