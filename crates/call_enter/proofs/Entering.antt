@@ -12,7 +12,7 @@ use Rattle.rules.specs.Rights.{Op, op, fee_of, asked, presents}
 use Rattle.rules.specs.Call.{Call, Capability}
 use Rattle.rules.specs.Code as Code
 use Rattle.rules.specs.Password.{presented}
-use Rattle.rules.specs.Refusals.{first, in_range, caller, running, early, showing, presenting}
+use Rattle.rules.specs.Refusals.{first, in_range, caller, running, early, presenting}
 use Rattle.rules.proofs.Ready.{presenting-some, presenting-none}
 use Rattle.rules.proofs.Tests.{by-eq, pick_yes, pick-not}
 use Rattle.layout.specs.View.{view}
@@ -23,7 +23,7 @@ use Rattle.call_steps.proofs.Entering.{early-range, early-running, early-poor, e
 use Rattle.call_steps.proofs.Charging.{poor-is, fee-plain}
 use Rattle.std.specs.Prelude.{Result, Ok, Err, IfOk}
 use Rattle.values.specs.declared.refusal.Refusal.{Refusal}
-use Rattle.values.specs.Refusals.{number_of, code_of}
+use Rattle.values.specs.Refusals.{number_of}
 use Rattle.call_steps.specs.Admits.{Admits}
 use Rattle.call_enter.specs.declared.entry.Entered.{Entered}
 use Rattle.call_enter.specs.Enters.{Enters, Shows}
@@ -80,7 +80,7 @@ module _ {b w : List ℕ} {x : Entry} where
   }
 
   -- after the fee
-  module _ {l : List ℕ} {me : ℕ} {c : Capability} {o : Op} (e : shown b l w me c o ≡ x) where
+  module _ (l : List ℕ) (me : ℕ) (c : Capability) (o : Op) (e : shown b l w me c o ≡ x) where
     pub enters-stopped : (r : Refusal) → Shows (Err r) (shown b l w me c o) → Enters (Err r) b w x
     unfolding shown
     enters-stopped r S = record {

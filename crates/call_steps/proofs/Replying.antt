@@ -12,6 +12,7 @@ use Rattle.rules.specs.Call.{Answer, Outcome, code, done, hands_back, hands_over
 use Rattle.layout.specs.View.{view}
 use Rattle.values.specs.declared.refusal.Refusal.{Refusal}
 use Rattle.values.specs.Refusals.{number_of, code_of}
+use Rattle.values.proofs.Numbers.{number-some}
 use Rattle.call_steps.specs.Request.{Reply, answer_of, count_of}
 use Rattle.call_steps.specs.Run.{Ran, over, handed_over, settled, overlay}
 use Rattle.call_steps.specs.Refuses.{Refuses}
@@ -58,6 +59,10 @@ module _ {b l w : List ℕ} {r : Reply} where
   -- the refusal m, and nothing changed
   pub replies-stopped : {n : ℕ} (x : Ran) (m : ℕ) → n ≡ m → m ≢ 0 → Refuses m r → Replies r b l w (settled n b l w x)
   replies-stopped x m e nz R = refused-is R (stopped b l w x m e nz)
+
+-- `Err` is the refusal that is met, and nothing changed
+pub replies-refused : {b l w : List ℕ} {n : ℕ} (x : Ran) (r : Refusal) → n ≡ number_of r → Replies (Err r) b l w (settled n b l w x)
+replies-refused x r e = replies-stopped x (number_of r) e (number-some r) (refuses r)
 
 -- where none is met, the run x
 pub replies-done : (b l w : List ℕ) {b' l' w' : List ℕ} {r : Reply} {n : ℕ} (x : Ran) → n ≡ 0
