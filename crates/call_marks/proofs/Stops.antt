@@ -65,21 +65,12 @@ module _ (b l : List ℕ) (k : ℕ) where
 -- ---- suspend, resume, apply_lock
 
 module _ (b l : List ℕ) (k : ℕ) (w : List ℕ) where
-  -- the refusal r of the target
-  module _ (r : Refusal) (q : number_of r ≡ process_stop b l k) where
-    pub suspended-met : (v : ℕ) → over (number_of r) b l w ≡ suspended_run b l w k v
-    unfolding suspended_run
-    suspended-met v = stopped b l w _ (number_of r) (sym q) (number-some r)
-
-    pub lock-met : (x : List ℕ) → over (number_of r) b l w ≡ lock_run b l w k (lockword_of x)
-    unfolding lock_run
-    lock-met x = stopped b l w _ (number_of r) (sym q) (number-some r)
-
-    pub revive-refused : (me sum : ℕ) → over (number_of r) b l w ≡ revive_run b l w me k sum
-    unfolding revive_run
-    revive-refused me sum =
-        let no = process-clear b l k q (number-some r) in
-        stopped b l w _ (number_of r) (revive-data b l k w me sum no ∙ sym (process-data b l k no) ∙ sym q) (number-some r)
+  -- the refusal r of the target is revive's
+  pub revive-refused : (r : Refusal) → number_of r ≡ process_stop b l k → (me sum : ℕ)
+      → revive_stop b l w me k sum ≡ number_of r
+  revive-refused r q me sum =
+      let no = process-clear b l k q (number-some r) in
+      revive-data b l k w me sum no ∙ sym (process-data b l k no) ∙ sym q
 
   -- none, and the target's slot is o
   module _ {o : ℕ} (q : o ≡ owner_of l k) (z : 0 ≡ process_stop b l k) where

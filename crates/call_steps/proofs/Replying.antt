@@ -21,11 +21,16 @@ use Rattle.call_steps.proofs.Meeting.{stopped, goes_on}
 
 -- ---- the code of a reply
 
--- a reply's code is its answer's
-answer-code : (r : Reply) (bytes : List ℕ) → (answer_of r bytes).code ≡ code_of r
+-- a reply's code is its answer's, and the bytes are those at the buffer's front
+pub answer-code : (r : Reply) (bytes : List ℕ) → (answer_of r bytes).code ≡ code_of r
 unfolding answer_of
 answer-code (Ok x) bytes = refl
 answer-code (Err r) bytes = refl
+
+pub answer-bytes : (r : Reply) (bytes : List ℕ) → (answer_of r bytes).bytes ≡ bytes
+unfolding answer_of
+answer-bytes (Ok x) bytes = refl
+answer-bytes (Err r) bytes = refl
 
 -- `Err` refuses
 pub refuses : (r : Refusal) → Refuses (number_of r) (Err r)

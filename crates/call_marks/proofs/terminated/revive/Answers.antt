@@ -6,7 +6,8 @@ use Rattle.std.proofs.lemmas.Result.{err_from_is_err_and}
 use Rattle.rules.specs.Refusals.{◌when◌, first}
 use Rattle.values.specs.declared.refusal.Refusal.TheVariants.{NotRevivable, TooLittle}
 use Rattle.layout.proofs.Shown.{set-yes, set-no}
-use Rattle.call_steps.proofs.Replying.{refuses, refused-is, done-is}
+use Rattle.call_steps.proofs.Replying.{refuses, refused-is, replies-refused, done-is}
+use Rattle.call_marks.specs.Runs.{revive_run}
 use Rattle.call_marks.proofs.Stops.{Reviving, revive-refused, revive-met, revive-done, room-is}
 use Rattle.call_marks.proofs.terminated.revive.Goals as goal
 use Rattle.call_marks.proofs.terminated.revive.Goals.{In_ok-o}
@@ -21,9 +22,10 @@ reviving c = record {
 }
 
 pub returns-in_err-o : goal.returns-in_err-o
+unfolding revive_run
 returns-in_err-o c =
     let p = err_from_is_err_and c.from_residual.result c.from_residual.ensures.1 in
-    rw (p.1, p.2) (refused-is (refuses _) (revive-refused _ _ _ _ _ c.in_err-o.ensures.code c.args.me c.args.sum))
+    rw (p.1, p.2) (replies-refused _ _ (revive-refused _ _ _ c.args.words.now _ c.in_err-o.ensures.code c.args.me c.args.sum))
 
 pub returns-then-bytes-o-eq0 : goal.returns-then-bytes-o-eq0
 unfolding first ◌when◌
