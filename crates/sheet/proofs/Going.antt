@@ -1,9 +1,9 @@
 -- What the driver's turns keep of where the program stands.
-use Prim.Native.Nat.{ℕ, ◌+◌, ◌-◌, ◌*◌, ◌≤◌}
+use Prim.Native.Nat.{ℕ, ◌+◌, ◌*◌, ◌≤◌}
 use mathlib.Core.Path.{◌≡◌, ◌∙◌}
-use mathlib.Core.List.{List}
+use mathlib.Core.List.{List, ◌++◌}
 use native.Mathlib.Omega.{arith}
-use lib.ListN.{length, take, drop, length-drop}
+use lib.ListN.{length, take, length-append}
 use lib.Seq.{length-take-le}
 use Rattle.script_play.specs.Plays.{Working}
 use Rattle.script_driver.specs.Stores.{Store}
@@ -24,42 +24,40 @@ line-done f w = record {
   number = omega (arith, f.number, feeds-within f.feeds);
 }
 
--- ---- the lines of a window: those before place `from` were played
+-- ---- the lines of a window, of which some are left
 
-pub record Going (s : Store) (held ns ts bs ss window : List ℕ) (r₀ r : Run) (from : ℕ) : Type 0 where
+pub record Going (s : Store) (held ns ts bs ss window : List ℕ) (r₀ r : Run) (left : List ℕ) : Type 0 where
   pub stands : Stands s held ns ts bs ss r
-  pub number : r.number ≤ r₀.number + from
-  pub within : from ≤ length window
+  pub number : r.number + length left ≤ r₀.number + length window
   pub counted : r₀.number + length window ≤ LAST
 
 pub going_start : {s : Store} {held ns ts bs ss window : List ℕ} {r : Run} → LineAsks s held ns ts bs ss window r
-    → Going s held ns ts bs ss window r r 0
-going_start a = record { stands = a.stands; number = omega arith; within = omega arith; counted = a.counted }
+    → Going s held ns ts bs ss window r r window
+going_start a = record { stands = a.stands; number = omega arith; counted = a.counted }
 
-part_length : (window : List ℕ) (from to : ℕ) → from ≤ to → to ≤ length window → length (take (to - from) (drop from window)) ≡ to - from
-part_length window from to h k = length-take-le (to - from) (drop from window) (omega (arith, length-drop from window))
+-- a line and what is left after it
+longer : (left line left' : List ℕ) → left ≡ line ++ left' → length left ≡ length line + length left'
+longer left line left' e = rw e (length-append line left')
 
-pub going-asks : {s : Store} {held ns ts bs ss window : List ℕ} {r₀ r : Run} {from to : ℕ} → Going s held ns ts bs ss window r₀ r from
-    → from ≤ to → to ≤ length window → LineAsks s held ns ts bs ss (take (to - from) (drop from window)) r
-going-asks {window = window} {from = from} {to = to} g h k = record {
+pub going-asks : {s : Store} {held ns ts bs ss window : List ℕ} {r₀ r : Run} {left line : List ℕ} (left' : List ℕ)
+    → Going s held ns ts bs ss window r₀ r left → left ≡ line ++ left' → LineAsks s held ns ts bs ss line r
+going-asks {left = left} {line = line} left' g e = record {
   stands = g.stands;
-  counted = omega (arith, g.number, g.counted, part_length window from to h k);
+  counted = omega (arith, g.number, g.counted, longer left line left' e);
 }
 
-pub going_on : {s s' : Store} {held ns ts bs ss window held' ns' ts' bs' ss' : List ℕ} {r₀ r r' : Run} {from to : ℕ}
-    → Going s held ns ts bs ss window r₀ r from → from ≤ to → to ≤ length window
-    → RunDone s' held' ns' ts' bs' ss' (take (to - from) (drop from window)) r r'
-    → Going s' held' ns' ts' bs' ss' window r₀ r' to
-going_on {window = window} {from = from} {to = to} g h k d = record {
+pub going_on : {s s' : Store} {held ns ts bs ss window held' ns' ts' bs' ss' : List ℕ} {r₀ r r' : Run} {left line left' : List ℕ}
+    → Going s held ns ts bs ss window r₀ r left → left ≡ line ++ left' → RunDone s' held' ns' ts' bs' ss' line r r'
+    → Going s' held' ns' ts' bs' ss' window r₀ r' left'
+going_on {left = left} {line = line} {left' = left'} g e d = record {
   stands = d.stands;
-  number = omega (arith, g.number, d.number, part_length window from to h k);
-  within = k;
+  number = omega (arith, g.number, d.number, longer left line left' e);
   counted = g.counted;
 }
 
-pub going_done : {s : Store} {held ns ts bs ss window : List ℕ} {r₀ r : Run} {from : ℕ} → Going s held ns ts bs ss window r₀ r from
+pub going_done : {s : Store} {held ns ts bs ss window left : List ℕ} {r₀ r : Run} → Going s held ns ts bs ss window r₀ r left
     → RunDone s held ns ts bs ss window r₀ r
-going_done g = record { stands = g.stands; number = omega (arith, g.number, g.within) }
+going_done g = record { stands = g.stands; number = omega (arith, g.number) }
 
 -- ---- the turns: so many are left
 

@@ -7,7 +7,6 @@ use Rattle.script_driver.specs.Contract.{LAST}
 use Rattle.script_driver.specs.Turns.{HELD}
 use Rattle.script_driver.specs.Parts.{run_of}
 use Rattle.script_driver.specs.declared.Run.{Run}
-use Rattle.sheet.specs.declared.state.Stand.{Stand}
 
 -- the size of the input buffer
 abbrev pub BUFFER : ℕ
@@ -27,9 +26,6 @@ pub record LineAsks (s : Store) (held ns ts bs ss window : List ℕ) (r : Run) :
 pub record RunDone (s : Store) (held ns ts bs ss window : List ℕ) (r r' : Run) : Type 0 where
   pub stands : Stands s held ns ts bs ss r'
   pub number : r'.number ≤ r.number + length window
-
-abbrev pub StandDone : Store → List ℕ → List ℕ → List ℕ → List ℕ → List ℕ → List ℕ → Run → Stand → Type 0
-StandDone s held ns ts bs ss window r x = RunDone s held ns ts bs ss window r x.run
 
 -- before the first turn
 pub record Begins (s : Store) (held ns ts bs ss input : List ℕ) : Type 0 where
