@@ -1,9 +1,11 @@
 // The lines of a window of the input, one at a time, so that the store is seen before and after each.
-ghost use Rattle.script_driver.specs.Parts.{store};
+ghost use Rattle.std.specs.Prelude.{◌≡◌};
+ghost use Rattle.script_play.specs.Workspace.{StaysLent};
 ghost use Rattle.sheet.specs.Runs.{LineAsks, RunDone};
 
 use script_answers::answer::ANSWER;
 use script_driver::{Run, feed};
+use script_play::workspace::Workspace;
 use sheet_draw::ended::{Ended, Ending, Living};
 use sheet_draw::store::Store;
 use std::io::{BufWriter, Stdout, Write};
@@ -27,57 +29,43 @@ fn ending_call(number: u64, held: &[u8], window: &[u8]) -> Option<Ending> {
     }
 }
 
+// The store that a script is played on, to be drawn.
+pub fn drawn<'a>(room: &'a Workspace<'a>) -> Store<'a>
+    ensures bytes { result.bytes.now ≡ room.now.bytes.now }
+    ensures links { result.links.now ≡ room.now.links.now }
+    ensures words { result.words.now ≡ room.now.words.now }
+{
+    Store {
+        bytes: room.bytes,
+        links: room.links,
+        words: room.words,
+    }
+}
+
 // A line that ends with the window, or a part of one. Its answer is not shown; what it ended is.
 fn one_line(
-    bytes: &mut [u8],
-    links: &mut [u16],
-    words: &mut [u32],
-    numbers: &mut [u32],
-    text: &mut [u8],
-    buffer: &mut [u8],
-    scratch: &mut [u16],
+    room: &mut Workspace,
     held: &mut [u8],
     window: &[u8],
     out: &mut Output,
     begun: Run,
 ) -> Run
-    requires { LineAsks (store bytes.old links.old words.old) held.old numbers.old text.old buffer.old scratch.old
-        window.now begun }
-    ensures { RunDone (store bytes.new links.new words.new) held.new
-        numbers.new text.new buffer.new scratch.new window.now begun result }
+    requires { LineAsks room.old held.old window.now begun }
+    ensures done { RunDone room.new held.new window.now begun result }
+    ensures lent { StaysLent room.old room.new }
 {
     let mut answer = [0u8; ANSWER];
     let call = ending_call(begun.number, &held[..begun.count], window);
     let before = match call {
-        Some(_) => Living::of(Store {
-            bytes,
-            links,
-            words,
-        }),
+        Some(_) => Living::of(drawn(room)),
         None => Living::nothing(),
     };
     let run = Run { at: 0, ..begun };
-    let fed = feed(
-        bytes,
-        links,
-        words,
-        numbers,
-        text,
-        buffer,
-        scratch,
-        held,
-        window,
-        &mut answer,
-        run,
-    );
+    let fed = feed(room, held, window, &mut answer, run);
     if let Some(call) = call {
         let ended = Ended {
             before: &before,
-            after: Store {
-                bytes,
-                links,
-                words,
-            },
+            after: drawn(room),
             line: begun.number,
             call,
         };
@@ -89,28 +77,19 @@ fn one_line(
 
 // The lines of a window, in turn.
 pub fn play_window(
-    bytes: &mut [u8],
-    links: &mut [u16],
-    words: &mut [u32],
-    numbers: &mut [u32],
-    text: &mut [u8],
-    buffer: &mut [u8],
-    scratch: &mut [u16],
+    room: &mut Workspace,
     held: &mut [u8],
     window: &[u8],
     out: &mut Output,
     begun: Run,
 ) -> Run
-    requires { LineAsks (store bytes.old links.old words.old) held.old numbers.old text.old buffer.old scratch.old
-        window.now begun }
-    ensures { RunDone (store bytes.new links.new words.new) held.new
-        numbers.new text.new buffer.new scratch.new window.now begun result }
+    requires { LineAsks room.old held.old window.now begun }
+    ensures done { RunDone room.new held.new window.now begun result }
+    ensures lent { StaysLent room.old room.new }
 {
     let mut run = begun;
     for line in window.split_inclusive(|byte| *byte == b'\n') {
-        run = one_line(
-            bytes, links, words, numbers, text, buffer, scratch, held, line, out, run,
-        );
+        run = one_line(room, held, line, out, run);
     }
     run
 }

@@ -3,16 +3,16 @@
 #![tactic(auto)]
 
 ghost use Rattle.std.specs.Prelude.{◌≤◌, length};
-ghost use Rattle.script_driver.specs.Parts.{store};
 ghost use Rattle.sheet.specs.Runs.{Begins};
 
 mod lines;
 
 use kernel_fresh::fresh;
 use layout::{BYTES, LINKS, WORDS};
-use lines::{Output, play_window};
+use lines::{Output, drawn, play_window};
 use script_driver::Run;
 use script_driver::line::HELD;
+use script_play::workspace::Workspace;
 use script_text::lines::NUMBERS;
 use sheet_draw::draw::Objects;
 use sheet_draw::store::Store;
@@ -37,20 +37,13 @@ fn give_end(input: &mut [u8], came: usize, count: usize) -> usize
 
 // Reads and plays, turn after turn, until nothing comes; nothing says that the input ends, so the turns are counted.
 fn play_all(
-    bytes: &mut [u8],
-    links: &mut [u16],
-    words: &mut [u32],
-    numbers: &mut [u32],
-    text: &mut [u8],
-    buffer: &mut [u8],
-    scratch: &mut [u16],
+    room: &mut Workspace,
     held: &mut [u8],
     mut stdin: Stdin,
     input: &mut [u8],
     out: &mut Output,
 ) -> Run
-    requires { Begins (store bytes.old links.old words.old) held.old numbers.old text.old buffer.old scratch.old
-        input.old }
+    requires { Begins room.old held.old input.old }
 {
     let mut run = Run {
         number: 0,
@@ -61,19 +54,7 @@ fn play_all(
     for _turn in 0..TURNS {
         let came = stdin.read(input).unwrap_or(0);
         let n = give_end(input, came, run.count);
-        run = play_window(
-            bytes,
-            links,
-            words,
-            numbers,
-            text,
-            buffer,
-            scratch,
-            held,
-            &input[..n],
-            out,
-            run,
-        );
+        run = play_window(room, held, &input[..n], out, run);
         if came == 0 {
             break;
         }
@@ -105,26 +86,18 @@ fn run(stdin: Stdin, mut out: Output) {
     let mut input = [0u8; 65536];
     // a store with no money, until line one says what it holds
     fresh(0, [0, 0], &mut bytes, &mut links, &mut words);
-    let last = play_all(
-        &mut bytes,
-        &mut links,
-        &mut words,
-        &mut numbers,
-        &mut text,
-        &mut buffer,
-        &mut scratch,
-        &mut held,
-        stdin,
-        &mut input,
-        &mut out,
-    );
-    let store = Store {
-        bytes: &bytes,
-        links: &links,
-        words: &words,
+    let mut room = Workspace {
+        bytes: &mut bytes,
+        links: &mut links,
+        words: &mut words,
+        numbers: &mut numbers,
+        text: &mut text,
+        buffer: &mut buffer,
+        scratch: &mut scratch,
     };
+    let last = play_all(&mut room, &mut held, stdin, &mut input, &mut out);
     // what cannot be written is left out, and nothing comes after it
-    let _ = put_end(store, &mut out, last);
+    let _ = put_end(drawn(&room), &mut out, last);
 }
 
 // A buffer before what is written; where there is no memory for it, each piece is written as it comes.

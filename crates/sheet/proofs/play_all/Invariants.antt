@@ -1,8 +1,7 @@
 -- `play_all` has `TURNS` turns, less those that it took.
 use Prim.Native.Nat.{◌-◌}
-use Rattle.script_driver.specs.Parts.{store}
 use Rattle.sheet.proofs.Going.{Turning}
 use Rattle.sheet.proofs.play_all.Given as goal
 
 abbrev pub invariant-loop-turn : goal.invariant-loop-turn
-invariant-loop-turn l = Turning (store l.bytes l.links l.words) l.held l.numbers l.text l.buffer l.scratch l.input l.run (140737488355328 - l._turn)
+invariant-loop-turn l = Turning l.room l.held l.input l.run (140737488355328 - l._turn)
