@@ -25,10 +25,6 @@ unmarked b o = not (is_set (suspended_of b o) || is_set (waiting_of b o) || is_s
 unfoldable pub taken : State → ℕ → ℕ → ℕ → Bool
 taken s o p1 i = eqb (s.cap i).object o && eqb (s.cap i).password.p1 p1
 
--- how many slots the code takes at once
-abbrev pub group : ℕ
-group = 16
-
 -- the cell of slot k in the row from off on is x, whether or not the slot holds a record
 unfoldable pub cell_is : ℕ → List ℕ → ℕ → ℕ → Bool
 cell_is off l x k = eqb (get_or l (off + k) 0) x

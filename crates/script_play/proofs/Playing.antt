@@ -28,7 +28,7 @@ use Rattle.script_text.specs.Numeral.{line_of}
 use Rattle.script_text.specs.Pasted.{Put}
 use Rattle.script_answers.specs.Room.{ANSWER, REFUSAL}
 use Rattle.script_answers.specs.Pushed.{BytesCounted}
-use Rattle.script_play.specs.Plays.{line_with, Played}
+use Rattle.script_play.specs.Plays.{line_with, Played, Plays, Misfits}
 
 -- ---- the rules of a line
 
@@ -106,20 +106,23 @@ refusal-line o = refl
 no-choice : Choice
 no-choice = record { object = 0; cap = 0 }
 
-pub bad-played : {ns b l w out out' : List ℕ} {number at n : ℕ} → WellFormed b l w
-    → line_fits (op (nth ns 0)) ns ≡ false
+pub bad-played : {line b l w out out' : List ℕ} {number at n : ℕ} → WellFormed b l w → Misfits line
     → Put REFUSAL out at (line_of (number ∷ 2 ∷ [])) out' n
-    → Played ns number b l w b l w out at out' n
-bad-played {ns} {b} {l} {w} {out} {out'} {number} {at} {n} f bad put = record {
-  choice = no-choice;
-  allowed = λ g. absurd (true≢false (sym g ∙ bad));
-  answer = code 2;
-  rules = line-bad no-choice (view b l w) ns bad;
-  exact = λ g. absurd (true≢false (sym g ∙ bad));
-  bad = λ _. record { bytes = refl; links = refl; words = refl };
-  formed = f;
-  wrote = record {
-    wrote = (subst (λ (k : List ℕ). Put REFUSAL out at (line_of (number ∷ k)) out' n) (sym (refusal-line (op (nth ns 0)))) put).wrote;
-    room = omega (arith, put.room);
+    → Plays line number b l w b l w out at out' n
+bad-played {line} {b} {l} {w} {out} {out'} {number} {at} {n} f m put = record {
+  numbers = m.numbers;
+  means = m.means;
+  played = record {
+    choice = no-choice;
+    allowed = λ g. absurd (true≢false (sym g ∙ m.bad));
+    answer = code 2;
+    rules = line-bad no-choice (view b l w) m.numbers m.bad;
+    exact = λ g. absurd (true≢false (sym g ∙ m.bad));
+    bad = λ _. record { bytes = refl; links = refl; words = refl };
+    formed = f;
+    wrote = record {
+      wrote = (subst (λ (k : List ℕ). Put REFUSAL out at (line_of (number ∷ k)) out' n) (sym (refusal-line (op (nth m.numbers 0)))) put).wrote;
+      room = omega (arith, put.room);
+    };
   };
 }

@@ -1,6 +1,6 @@
 -- A line after line one: 01, "A bad line .. is answered 2 and changes nothing. Output for each line after line one: its
 -- number .., 0 or the refusal, then results".
-use Rattle.std.specs.Prelude.{ℕ, ◌+◌, ◌≤◌, ◌≡◌, true, false, List, ◌∷◌, length}
+use Rattle.std.specs.Prelude.{ℕ, ◌+◌, ◌≤◌, ◌≡◌, true, false, List, ◌∷◌, length, take, Option, Some, None}
 use Rattle.rules.specs.Store.{State}
 use Rattle.rules.specs.Rights.{op}
 use Rattle.rules.specs.Limit as Limit
@@ -73,13 +73,21 @@ pub record PlayAsks (b l w out : List ℕ) (at : ℕ) : Type 0 where
   pub formed : WellFormed b l w
   pub room : at + ANSWER ≤ length out
 
--- and numbers, no more than a line has
-pub record NumbersAsk (b l w ns ts bs ss out : List ℕ) (at : ℕ) : Type 0 where
-  pub play : PlayAsks b l w out at
-  pub few : length ns ≤ most_numbers
-  pub lent : Lent ts bs ss
+-- the first r of these numbers fit their call
+pub record Fits (ns : List ℕ) (r : ℕ) : Type 0 where
+  pub within : r ≤ length ns
+  pub fits : line_fits (op (nth (take r ns) 0)) (take r ns) ≡ true
 
--- which fit their call
-pub record CallAsks (b l w ns ts bs ss out : List ℕ) (at : ℕ) : Type 0 where
-  pub asks : NumbersAsk b l w ns ts bs ss out at
-  pub fits : line_fits (op (nth ns 0)) ns ≡ true
+-- a line whose numbers do has them at the front of ns; a bad one has none
+pub record FitsRead (line ns : List ℕ) (r : ℕ) : Type 0 where
+  pub means : Means line (take r ns)
+  pub fits : Fits ns r
+
+pub record Misfits (line : List ℕ) : Type 0 where
+  pub numbers : List ℕ
+  pub means : Means line numbers
+  pub bad : line_fits (op (nth numbers 0)) numbers ≡ false
+
+abbrev pub Fitting : List ℕ → List ℕ → Option ℕ → Type 0
+Fitting line ns (Some r) = FitsRead line ns r
+Fitting line ns None = Misfits line

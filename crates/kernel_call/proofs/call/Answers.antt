@@ -17,7 +17,7 @@ returns-then-not-check c =
     (record { reply = refuses IllFormed; slices-are = refl })
 
 pub step-requires : goal.step-requires
-step-requires c = formed c
+step-requires c = formed (goal.at.step-requires c).Else-not-check
 
 pub returns : goal.returns
 returns c = calls-step (formed (goal.at.returns c).Else-not-check) c.step.ensures

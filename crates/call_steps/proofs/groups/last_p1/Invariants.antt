@@ -1,4 +1,4 @@
--- `last_p1` meets its contract: it counts down from the slot where `skip_p1s` stopped.
+-- `last_p1` meets its contract: it counts down from the slot where `skip_groups` stopped.
 use Prim.Native.Nat.{◌-◌, ◌≤◌}
 use Rattle.layout.specs.Layout as Layout
 use Rattle.call_steps.specs.Tests.{SameFrom, cell_is}

@@ -2,7 +2,6 @@
 use native.Mathlib.Omega.{arith}
 use Rattle.script_text.proofs.Numerals.{long-length}
 use Rattle.script_answers.proofs.Gathering.{line-pushed}
-use borrow.Author.Rules.{rules}
 use Rattle.script_answers.proofs.answer.answer_line.Goals as goal
 
 pub put_digits-p-requires : goal.put_digits-p-requires

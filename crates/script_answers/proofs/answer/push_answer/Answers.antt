@@ -3,7 +3,6 @@ use lib.ListN.{take}
 use Rattle.rules.specs.Rights.{op}
 use Rattle.call_steps.specs.Request.{answer_of}
 use Rattle.script_answers.proofs.Gathering.{answered-done, answered-refused}
-use borrow.Author.Rules.{rules}
 use Rattle.script_answers.proofs.answer.push_answer.Goals as goal
 
 pub returns-then-code-eq0 : goal.returns-then-code-eq0

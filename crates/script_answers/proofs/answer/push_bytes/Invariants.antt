@@ -1,8 +1,6 @@
 -- `push_bytes` writes byte after byte.
 use Prim.Native.Nat.{◌-◌, ◌≤◌}
-use native.Mathlib.Omega.{arith}
-use Rattle.script_answers.proofs.Gathering.{Pushing, pushing-none, pushing-more, pushing-all}
-use borrow.Author.Rules.{rules}
+use Rattle.script_answers.proofs.Gathering.{Pushing}
 use Rattle.script_answers.proofs.answer.push_bytes.Given as goal
 
 abbrev pub invariant-loop-i : goal.invariant-loop-i

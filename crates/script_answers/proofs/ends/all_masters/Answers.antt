@@ -1,11 +1,7 @@
 -- `all_masters` has added up the moneywords of the slots that it passed.
-use Prim.Native.Nat.{ℕ}
-use mathlib.Core.List.{List, []}
+use mathlib.Core.List.{[]}
 use native.Mathlib.Omega.{arith}
-use borrow.Author.Rules.{rules}
-use Rattle.layout.specs.View.{view}
-use Rattle.check_money.specs.Amount.{master_money}
-use Rattle.layout.proofs.Adding.{Added, added_none, added_more}
+use Rattle.layout.proofs.Adding.{added_none, added_more}
 use Rattle.check_money.proofs.Living.{masters-added}
 use Rattle.script_answers.proofs.ends.all_masters.Goals as goal
 

@@ -1,12 +1,9 @@
 -- `all_masters` has added up the moneywords of the slots that it passed.
 use Prim.Native.Nat.{ℕ}
-use mathlib.Core.List.{List, []}
-use native.Mathlib.Omega.{arith}
-use borrow.Author.Rules.{rules}
+use mathlib.Core.List.{List}
 use Rattle.layout.specs.View.{view}
 use Rattle.check_money.specs.Amount.{master_money}
-use Rattle.layout.proofs.Adding.{Added, added_none, added_more}
-use Rattle.check_money.proofs.Living.{masters-added}
+use Rattle.layout.proofs.Adding.{Added}
 use Rattle.script_answers.proofs.ends.all_masters.Given as goal
 
 abbrev pub invariant-loop-i : goal.invariant-loop-i

@@ -2,7 +2,6 @@
 use mathlib.Core.Path.{◌∙◌}
 use lib.ListN.{length}
 use Rattle.script_lines.proofs.Bytes.{ends-in, ends-early}
-use borrow.Author.Rules.{rules}
 use Rattle.script_lines.proofs.fits.ends_in_bytes.Goals as goal
 
 pub returns-then-from-numbers : goal.returns-then-from-numbers

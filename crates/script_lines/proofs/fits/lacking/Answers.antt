@@ -4,7 +4,6 @@ use Rattle.rules.specs.Fields.{last_day}
 use Rattle.script_lines.specs.Table as Table
 use Rattle.script_lines.proofs.Rows.{itself, place_in, length-in}
 use Rattle.script_lines.proofs.Lacking.{lacking-none, lacking-one, lacking-two, lacking-other}
-use borrow.Author.Rules.{rules}
 use Rattle.script_lines.proofs.fits.lacking.Goals as goal
 
 pub returns-then-place-eq0 : goal.returns-then-place-eq0

@@ -2,12 +2,10 @@
 use mathlib.Core.Path.{sym, ap, ◌∙◌}
 use Rattle.rules.specs.Rights.{Op}
 use Rattle.rules.specs.Fields.{text}
-use Rattle.rules.proofs.Tests.{not-is-true, not-is-false}
 use Rattle.script_lines.specs.Table as Table
 use Rattle.script_lines.specs.Lacking.{lacking}
 use Rattle.script_lines.proofs.Rows.{of_number, place_in, length-in}
 use Rattle.script_lines.proofs.Calls.{call-is, fits_not, fits-exactly, fits-or-more}
-use borrow.Author.Rules.{rules}
 use Rattle.script_lines.proofs.fits.line_fits.Goals as goal
 
 pub returns-then-not-is_call : goal.returns-then-not-is_call

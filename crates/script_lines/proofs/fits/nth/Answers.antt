@@ -1,7 +1,6 @@
 -- `nth` tests its place.
 use mathlib.Core.Path.{sym}
 use lib.ListN.{get_or-eq_default}
-use borrow.Author.Rules.{rules}
 use Rattle.script_lines.proofs.fits.nth.Goals as goal
 
 pub returns : goal.returns

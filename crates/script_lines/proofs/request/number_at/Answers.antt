@@ -1,6 +1,5 @@
 -- `number_at` tests whether there is such a place.
 use Rattle.script_lines.proofs.Calls.{absent, present}
-use borrow.Author.Rules.{rules}
 use Rattle.script_lines.proofs.request.number_at.Goals as goal
 
 pub returns-then-place-eq0 : goal.returns-then-place-eq0

@@ -10,7 +10,6 @@ use Rattle.call_steps.specs.Request.{call_of}
 use Rattle.script_lines.specs.Table as Table
 use Rattle.script_lines.proofs.Rows.{of_number}
 use Rattle.script_lines.proofs.Lacking.{said_in, after-in, limit-in, last-day-in}
-use borrow.Author.Rules.{rules}
 use Rattle.script_lines.proofs.request.request_of.Goals as goal
 
 pub returns : goal.returns

@@ -5,7 +5,6 @@ use Rattle.script_lines.specs.Table as Table
 use Rattle.script_lines.proofs.Rows.{of_number, place_in}
 use Rattle.script_lines.proofs.Bytes.{line-bytes}
 use Rattle.script_lines.proofs.Calls.{no_front, bytes-front}
-use borrow.Author.Rules.{rules}
 use Rattle.script_lines.proofs.text.text_of.Goals as goal
 
 pub returns-then-from-eq0 : goal.returns-then-from-eq0
