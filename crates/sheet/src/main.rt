@@ -85,7 +85,7 @@ fn run(stdin: Stdin, mut out: Output) {
     let mut held = [0u8; HELD];
     let mut input = [0u8; 65536];
     // a store with no money, until line one says what it holds
-    fresh(0, [0, 0], &mut bytes, &mut links, &mut words);
+    let _ = fresh(0, [0, 0], &mut bytes, &mut links, &mut words);
     let mut room = Workspace {
         bytes: &mut bytes,
         links: &mut links,
