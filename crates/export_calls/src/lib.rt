@@ -7,7 +7,7 @@ ghost use Rattle.export_calls.specs.Exported.{Exported};
 
 use call_steps::request::Request;
 use export_numbers::numbers::{asked, tell, unfit};
-use values::code::OUT_OF_RANGE;
+use values::refusal::Refusal;
 
 // Makes the call that the request's numbers say, and writes the reply's; where either slice has another length, nothing.
 pub fn call_by_numbers(
@@ -50,7 +50,7 @@ pub fn step_by_numbers(
         (slices bytes.new links.new words.new buffer.new scratch.new) }
 {
     let Some(call) = asked::<Request>(request, reply) else {
-        return OUT_OF_RANGE;
+        return u32::from(Refusal::OutOfRange);
     };
     let stepped = kernel_step::step(bytes, links, words, text, buffer, scratch, call);
     tell(stepped, reply)

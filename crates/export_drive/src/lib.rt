@@ -9,7 +9,7 @@ ghost use Rattle.export_drive.specs.Exported.{Exported};
 use export_numbers::drive::PickAsked;
 use export_numbers::numbers::{asked, tell};
 use product_drive::{pick, pick_unchecked};
-use values::code::OUT_OF_RANGE;
+use values::refusal::Refusal;
 
 // Makes the pick that the request's numbers say, and writes the reply's; where either slice has another length, nothing.
 pub fn pick_by_numbers(
@@ -25,7 +25,7 @@ pub fn pick_by_numbers(
         (slices bytes.new links.new words.new buffer.new []) }
 {
     let Some(ask) = asked::<PickAsked>(request, reply) else {
-        return OUT_OF_RANGE;
+        return u32::from(Refusal::OutOfRange);
     };
     let answer = pick(
         bytes,
@@ -57,7 +57,7 @@ pub fn pick_unchecked_by_numbers(
         (slices bytes.new links.new words.new buffer.new []) }
 {
     let Some(ask) = asked::<PickAsked>(request, reply) else {
-        return OUT_OF_RANGE;
+        return u32::from(Refusal::OutOfRange);
     };
     let picked = pick_unchecked(
         bytes,

@@ -1,9 +1,9 @@
 // A call's request and its reply.
-ghost use Rattle.export_numbers.specs.Call.{request_length, reply_length, request_of, numbers_of};
+ghost use Rattle.export_numbers.specs.Call.{request_length, reply_length, request_of, nothing, row};
 
-use crate::numbers::{Asks, Tells};
+use crate::numbers::{Asks, Told};
 use call_steps::numbers::{capability_at, name_at, window_at};
-use call_steps::request::{Reply, Request};
+use call_steps::request::{Capability, Given, Name, Reply, Request};
 
 impl Asks for Request {
     type Answer = Reply;
@@ -35,19 +35,37 @@ impl Asks for Request {
     }
 }
 
-impl Tells for Reply {
+impl Told for Given {
     const LENGTH: usize = 9;
 
     ghost LENGTH = { reply_length };
 
-    ghost numbers = { numbers_of };
+    ghost nothing = { nothing };
 
-    #[tactic(auto, unfolding(crate::specs::Call::numbers_of))]
-    fn put(self, reply: &mut [u32]) {
+    ghost numbers = { row };
+
+    fn nothing() -> Given {
+        Given {
+            count: 0,
+            length: 0,
+            capability: Capability {
+                name: Name {
+                    volume: 0,
+                    serial: 0,
+                },
+                password: [0, 0],
+            },
+            moneyword: 0,
+            sum: 0,
+        }
+    }
+
+    #[tactic(auto, unfolding(crate::specs::Call::row))]
+    fn put_row(self, code: u32, reply: &mut [u32]) {
         let capability = self.capability;
         let [p1, p2] = capability.password;
         reply.copy_from_slice(&[
-            self.code,
+            code,
             capability.name.volume,
             capability.name.serial,
             p1,

@@ -1,11 +1,11 @@
-// The request and the reply of the count of passwords.
+// The request of the count of passwords; the reply is a number.
 ghost use Rattle.call_steps.specs.Numbers.{name_at};
-ghost use Rattle.export_numbers.specs.Count.{request_length, reply_length, right_of, numbers_of};
+ghost use Rattle.export_numbers.specs.Count.{request_length, right_of};
 
-use crate::numbers::{Asks, Tells};
+use crate::numbers::Asks;
 use call_steps::numbers::name_at;
 use call_steps::request::Name;
-use question_count::Counted;
+use values::refusal::Refusal;
 
 // How many passwords, presented by a process for an object, would get past 5 and 6 for a right.
 #[derive(Clone, Copy)]
@@ -16,7 +16,7 @@ pub struct CountAsked {
 }
 
 impl Asks for CountAsked {
-    type Answer = Counted;
+    type Answer = Result<u32, Refusal>;
 
     const LENGTH: usize = 5;
 
@@ -30,18 +30,5 @@ impl Asks for CountAsked {
             object: name_at(request, 2),
             right: request[4],
         }
-    }
-}
-
-impl Tells for Counted {
-    const LENGTH: usize = 2;
-
-    ghost LENGTH = { reply_length };
-
-    ghost numbers = { numbers_of };
-
-    #[tactic(auto, unfolding(crate::specs::Count::numbers_of))]
-    fn put(self, reply: &mut [u32]) {
-        reply.copy_from_slice(&[self.code, self.count]);
     }
 }

@@ -1,11 +1,12 @@
-// The request and the reply of the lending question.
+// The request of the lending question; the reply is a number.
 ghost use Rattle.call_steps.specs.Numbers.{name_at};
-ghost use Rattle.export_numbers.specs.Lend.{request_length, reply_length, wish_at, numbers_of};
+ghost use Rattle.export_numbers.specs.Lend.{request_length, wish_at};
 
-use crate::numbers::{Asks, Tells};
+use crate::numbers::Asks;
 use call_steps::numbers::{name_at, window_at};
 use call_steps::request::Name;
-use question_lend::{Lent, Wish};
+use question_lend::Wish;
+use values::refusal::Refusal;
 
 // What a lender can lend from a list, which crosses in a slice of its own.
 #[derive(Clone, Copy)]
@@ -15,7 +16,7 @@ pub struct LendAsked {
 }
 
 impl Asks for LendAsked {
-    type Answer = Lent;
+    type Answer = Result<u32, Refusal>;
 
     const LENGTH: usize = 7;
 
@@ -34,18 +35,5 @@ impl Asks for LendAsked {
             lender: name_at(request, 0),
             wish,
         }
-    }
-}
-
-impl Tells for Lent {
-    const LENGTH: usize = 2;
-
-    ghost LENGTH = { reply_length };
-
-    ghost numbers = { numbers_of };
-
-    #[tactic(auto, unfolding(crate::specs::Lend::numbers_of))]
-    fn put(self, reply: &mut [u32]) {
-        reply.copy_from_slice(&[self.code, self.place]);
     }
 }

@@ -1,9 +1,9 @@
 // A request and its reply as they cross to C, each a row of 32-bit numbers of its own length.
 ghost use Rattle.std.specs.Prelude.{ℕ, List, ◌≡◌, get_or, length, IfNone, IfSome};
 ghost use Rattle.layout.specs.Decides.{Decides};
-ghost use Rattle.export_numbers.specs.Numbers.{Lengths, Fitting, Unfit};
+ghost use Rattle.export_numbers.specs.Numbers.{Lengths, Fitting, Unfit, told, number_row};
 
-use values::code::{ILL_FORMED, OUT_OF_RANGE};
+use values::refusal::{DONE, Refusal};
 
 // An answer as a row of numbers, its fields in their order; the first is its code.
 pub trait Tells {
@@ -18,6 +18,62 @@ pub trait Tells {
     fn put(self, reply: &mut [u32])
         requires { length reply.old ≡ LENGTH }
         ensures { reply.new ≡ numbers self };
+}
+
+// What a thing that was done gives, as numbers after the code.
+pub trait Told: Sized {
+    // How many numbers, the code among them.
+    const LENGTH: usize;
+
+    ghost LENGTH: { ℕ };
+
+    ghost nothing: { Self };
+
+    ghost numbers: { ℕ → Self → List ℕ };
+
+    // What stands after the code of a refusal.
+    fn nothing() -> Self
+        ensures { result ≡ nothing };
+
+    // Writes the code and them.
+    fn put_row(self, code: u32, reply: &mut [u32])
+        requires { length reply.old ≡ LENGTH }
+        ensures { reply.new ≡ numbers code self };
+}
+
+// 0 and what is given, or the refusal's number and nothing after it.
+impl<T: Told> Tells for Result<T, Refusal> {
+    const LENGTH: usize = T::LENGTH;
+
+    ghost LENGTH = { T.LENGTH };
+
+    ghost numbers = { told T.numbers T.nothing };
+
+    fn put(self, reply: &mut [u32]) {
+        match self {
+            Ok(given) => given.put_row(DONE, reply),
+            Err(refusal) => T::nothing().put_row(u32::from(refusal), reply),
+        }
+    }
+}
+
+// A question that is answered by one number.
+impl Told for u32 {
+    const LENGTH: usize = 2;
+
+    ghost LENGTH = { 2 };
+
+    ghost nothing = { 0 };
+
+    ghost numbers = { number_row };
+
+    fn nothing() -> u32 {
+        0
+    }
+
+    fn put_row(self, code: u32, reply: &mut [u32]) {
+        reply.copy_from_slice(&[code, self]);
+    }
 }
 
 // What is asked by a row of numbers.
@@ -72,7 +128,7 @@ pub fn unfit(bytes: &[u8], links: &[u16], words: &[u32]) -> u32
     ensures { Unfit bytes.now links.now words.now result }
 {
     if kernel_check::check(bytes, links, words) {
-        return OUT_OF_RANGE;
+        return u32::from(Refusal::OutOfRange);
     }
-    ILL_FORMED
+    u32::from(Refusal::IllFormed)
 }

@@ -1,11 +1,12 @@
 // The window question's request and its reply.
 ghost use Rattle.call_steps.specs.Numbers.{name_at, capability_at};
-ghost use Rattle.export_numbers.specs.Window.{request_length, reply_length, numbers_of};
+ghost use Rattle.export_numbers.specs.Window.{request_length, reply_length, nothing, row};
 
-use crate::numbers::{Asks, Tells};
+use crate::numbers::{Asks, Told};
 use call_steps::numbers::{capability_at, name_at};
 use call_steps::request::{Capability, Name};
-use question_window::Windowed;
+use values::refusal::Refusal;
+use values::window::Window;
 
 // The window of a capability that a caller presents.
 #[derive(Clone, Copy)]
@@ -15,7 +16,7 @@ pub struct WindowAsked {
 }
 
 impl Asks for WindowAsked {
-    type Answer = Windowed;
+    type Answer = Result<Window, Refusal>;
 
     const LENGTH: usize = 6;
 
@@ -31,15 +32,20 @@ impl Asks for WindowAsked {
     }
 }
 
-impl Tells for Windowed {
+impl Told for Window {
     const LENGTH: usize = 3;
 
     ghost LENGTH = { reply_length };
 
-    ghost numbers = { numbers_of };
+    ghost nothing = { nothing };
 
-    #[tactic(auto, unfolding(crate::specs::Window::numbers_of))]
-    fn put(self, reply: &mut [u32]) {
-        reply.copy_from_slice(&[self.code, self.window.start, self.window.end]);
+    ghost numbers = { row };
+
+    fn nothing() -> Window {
+        Window { start: 0, end: 0 }
+    }
+
+    fn put_row(self, code: u32, reply: &mut [u32]) {
+        reply.copy_from_slice(&[code, self.start, self.end]);
     }
 }
