@@ -22,13 +22,9 @@ fn is_whole(links: &[u16], i: usize, o: usize, start: u32, end: u32) -> bool
     requires { length links.now ≡ Layout.LINKS }
     ensures { Decides (Whole links.now i o start end) result }
 {
-    if start != 0 {
-        return false;
-    }
-    if field(links, MAX_CAPS, LAST_DAY, i) != NO_END {
-        return false;
-    }
-    end == u32::from(field(links, MAX_OBJECTS, SIZE, o))
+    start == 0
+        && field(links, MAX_CAPS, LAST_DAY, i) == NO_END
+        && end == u32::from(field(links, MAX_OBJECTS, SIZE, o))
 }
 
 // The rights, the window and the last day of capability i lie in those of capability p.

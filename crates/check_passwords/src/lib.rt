@@ -31,10 +31,7 @@ fn same_password(links: &[u16], words: &[u32], i: usize, j: usize) -> bool
         return false;
     }
     let owner = field(links, MAX_CAPS, OWNER, i);
-    if owner == 0 {
-        return false;
-    }
-    owner == field(links, MAX_CAPS, OWNER, j)
+    owner != 0 && owner == field(links, MAX_CAPS, OWNER, j)
 }
 
 // No slot above i has the object and the p1 of slot i, by the table of the slots above i, which gets slot i too.

@@ -22,16 +22,7 @@ fn agrees(links: &[u16], o: u16, j: u16, parent: u16, prev: u16) -> bool
         return false;
     }
     let i = usize::from(j);
-    let owner = links[OWNER + i];
-    if owner != o {
-        return false;
-    }
-    let above = links[PARENT + i];
-    if above != parent {
-        return false;
-    }
-    let back = links[PREV_CAP + i];
-    back == prev
+    links[OWNER + i] == o && links[PARENT + i] == parent && links[PREV_CAP + i] == prev
 }
 
 // It is sound: it agrees, and so does all that is below it.

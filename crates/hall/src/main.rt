@@ -126,8 +126,8 @@ fn main(rt: HostRuntime) {
     let mut held = [0u8; HELD];
     let mut input = [0u8; BUFFER];
     let mut out = [0u8; BUFFER];
-    // a store with no money, until line one says what it holds
-    fresh(0, [0, 0], &mut bytes, &mut links, &mut words);
+    // a store with no money, until line one says what it holds; slices of these sizes are not refused
+    let _ = fresh(0, [0, 0], &mut bytes, &mut links, &mut words);
     let mut room = Workspace {
         bytes: &mut bytes,
         links: &mut links,

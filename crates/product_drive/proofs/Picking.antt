@@ -22,7 +22,6 @@ use Rattle.product_drive.specs.declared.repeat.Place.{Place}
 use Rattle.product_drive.specs.declared.picked.Picked.{Picked}
 use Rattle.product_drive.specs.Drive.{fits, row_of}
 use Rattle.product_drive.specs.Picks.{refused_pick, picked_by, unread, Picks}
-use Rattle.values.specs.Refusals.{code_of}
 use Rattle.product_drive.specs.Picks.{told}
 use Rattle.values.specs.declared.window.Window.{Window}
 

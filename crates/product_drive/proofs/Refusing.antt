@@ -8,6 +8,7 @@ use native.Mathlib.Omega.{arith}
 use lib.Dec.{leb}
 use borrow.Author.Tests.{le-leb, ne_eqb}
 use Rattle.rules.specs.Code as Code
+use Rattle.rules.specs.Store.{no_window}
 use Rattle.rules.specs.Rights.{op}
 use Rattle.rules.specs.Call.{Call, Answer, Outcome, code}
 use Rattle.rules.specs.Refusals as Refusals
@@ -28,7 +29,7 @@ use Rattle.call_steps.specs.Run.{overlay}
 use Rattle.kernel_step.specs.Slices.{Slices, state_of, call_on}
 use Rattle.kernel_step.specs.Steps.{front, Steps}
 use Rattle.values.specs.declared.refusal.Refusal.{Refusal}
-use Rattle.std.specs.Prelude.{Result}
+use Rattle.std.specs.Prelude.{Ok, Err, Result}
 use Rattle.question_window.specs.Asks.{windowed_of, Asks}
 use Rattle.product_drive.specs.declared.repeat.Repeat.{Repeat}
 use Rattle.product_drive.specs.declared.repeat.Place.{Place}
@@ -62,15 +63,26 @@ unmade nz u =
 
 -- ---- the question
 
+-- an answer as the rules', field by field
+windowed-code : (a : Result Window Refusal) → (windowed_of a).code ≡ code_of a
+unfolding Questions.unwindowed no_window
+windowed-code (Ok window) = refl
+windowed-code (Err r) = refl
+
+windowed-window : (a : Result Window Refusal) → (windowed_of a).window ≡ window_of (told a)
+unfolding Questions.unwindowed no_window
+windowed-window (Ok window) = refl
+windowed-window (Err r) = refl
+
 module _ (was : Slices) (caller : Name) (x : Capability) (a : Result Window Refusal)
     (h : Asks was.bytes was.links was.words caller x a) where
-  told : code_of a ≢ Code.ill_formed → windowed_of a ≡ window_asked (state_of was) (name_of caller) (capability_of x)
-  told nz = h.asks (h.sound nz)
+  answered : code_of a ≢ Code.ill_formed → windowed_of a ≡ window_asked (state_of was) (name_of caller) (capability_of x)
+  answered nz = h.asks (h.sound nz)
 
   never-four : code_of a ≢ Code.cannot_pay
   never-four four =
       asked-free (state_of was) (name_of caller) (capability_of x)
-      (sym (ap (λ (w : Questions.Windowed). w.code) (told (λ one. omega arith))) ∙ four)
+      (sym (ap (λ (w : Questions.Windowed). w.code) (answered (λ one. omega arith))) ∙ windowed-code a ∙ four)
 
   unread-free : (p : Repeat) → unread p a ≢ Code.cannot_pay
   unread-free p four = by-eq (code_of a) Code.done
@@ -100,7 +112,7 @@ module _ (was is : Slices) (caller : Name) (x : Capability) (p : Repeat) (d : Pl
   c = call_on (read_request caller x (row_of (told a) p d.next)) [] was
 
   asked : window_asked (state_of was) (name_of caller) (capability_of x) ≡ windowed_of a
-  asked = sym (told was caller x a q (λ one. omega (arith, one, read_asked p a z)))
+  asked = sym (answered was caller x a q (λ one. omega (arith, one, read_asked p a z)))
 
   -- by none but 2, 3 and 4
   low : code_of y ≤ Code.cannot_pay
@@ -108,8 +120,9 @@ module _ (was is : Slices) (caller : Name) (x : Capability) (p : Repeat) (d : Pl
   low =
       let code_is : (rule (state_of was) c S.choice).answer.code ≡ code_of y = ap (λ (o : Outcome). o.answer.code) S.rules ∙ answer-code y _ in
       subst (λ n. n ≤ Code.cannot_pay) code_is
-      (read-inside (state_of was) c refl (ap (λ (w : Questions.Windowed). w.code) asked ∙ read_asked p a z)
+      (read-inside (state_of was) c refl (ap (λ (w : Questions.Windowed). w.code) asked ∙ windowed-code a ∙ read_asked p a z)
       (ap (λ (w : Questions.Windowed). lies_in (window_of (row_of (told a) p d.next)) w.window) asked
+      ∙ ap (lies_in (window_of (row_of (told a) p d.next))) (windowed-window a)
       ∙ row_inside (told a) p d f (read-holds p a z))
       S.choice (λ e. nz (sym code_is ∙ e)))
 

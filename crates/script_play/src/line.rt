@@ -16,14 +16,14 @@ use script_lines::request::request_of;
 use script_lines::text::text_of;
 use script_text::read::read_line;
 use script_text::write::put_line;
-use values::code::OUT_OF_RANGE;
+use values::refusal::Refusal;
 
 // "A bad line .. is answered 2"; of line one, whose number is 0, "`0 2` is all it writes".
 pub fn bad_line(out: &mut [u8], at: usize, number: u64) -> usize
     requires { at + REFUSAL ≤ length out.old }
     ensures { Put REFUSAL out.old at (line_of (number ∷ Code.out_of_range ∷ [])) out.new result }
 {
-    let others = [OUT_OF_RANGE];
+    let others = [u32::from(Refusal::OutOfRange)];
     put_line(out, at, number, &others)
 }
 

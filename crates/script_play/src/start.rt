@@ -26,16 +26,14 @@ pub fn start(room: &mut Workspace, line: &[u8]) -> bool
     ensures lent { StaysLent room.old room.new }
 {
     match opening(line, room.numbers) {
-        Some(first) => {
-            fresh(
-                first.supply,
-                first.password,
-                room.bytes,
-                room.links,
-                room.words,
-            );
-            true
-        }
+        Some(first) => fresh(
+            first.supply,
+            first.password,
+            room.bytes,
+            room.links,
+            room.words,
+        )
+        .is_ok(),
         None => false,
     }
 }

@@ -6,8 +6,8 @@ use Rattle.script_play.proofs.line.good_line.Goals as goal
 pub answer_line-requires : goal.answer_line-requires
 answer_line-requires c =
     record {
-      fact_1 = counted c.step-reply.ensures (c.step-reply.auto.buffer ∙ c.requires.working.lent.buffer);
-      fact_2 = c.requires.asks.room;
+      counted = counted c.step-reply.ensures (c.step-reply.auto.buffer ∙ c.requires.working.lent.buffer);
+      room = c.requires.asks.room;
     }
 
 pub returns-clause-played : goal.returns-clause-played
