@@ -61,6 +61,7 @@ fn arguments_fit(req: Request, text: usize, buffer: usize, scratch: usize) -> bo
     ensures { (d : List ℕ) → length d ≡ text
         → result ≡ arguments_fit (op req.number) (call_of req d buffer scratch) }
 {
+    // kept: 01 has "a decision over call numbers 1 to 16" here, and no enum of calls
     match req.number {
         1 => make_fits(req.name, req.size, req.flag, req.rights),
         2 => read_fits(req.range, buffer),

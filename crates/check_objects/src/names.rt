@@ -4,9 +4,10 @@ ghost use Rattle.std.specs.Prelude.{◌≡◌, ◌≤◌, ◌<◌};
 ghost use Rattle.rules.specs.Limit;
 ghost use Rattle.layout.specs.Decides.{Decides};
 ghost use Rattle.layout.specs.Sizes.{BytesLinks};
-ghost use Rattle.check_rows.specs.Buckets.{NoneFrom, Chained, Buckets, Entered};
+ghost use Rattle.check_rows.specs.Buckets.{Buckets, Entered};
 ghost use Rattle.check_objects.specs.Names.{SameName, name_place, name_keys};
 
+use check_rows::table;
 use layout::rows::field;
 use layout::{MASTER, SERIAL, VOLUME};
 use values::limit::MAX_OBJECTS;
@@ -35,29 +36,12 @@ fn same_name(bytes: &[u8], links: &[u16], o: usize, q: usize) -> bool
     field(links, MAX_OBJECTS, MASTER, q) != 0
 }
 
-// No slot in the chain from slot `head` on has the name of the object in slot o.
-fn name_is_new(bytes: &[u8], links: &[u16], next: &[u8], o: usize, head: usize) -> bool
-    requires sizes { BytesLinks bytes.now links.now }
-    requires chain { Chained Limit.objects next.now o head }
-    ensures { Decides (NoneFrom (SameName bytes.now links.now)
-        next.now o head) result }
-{
-    let mut q = head;
-    while 0 < q {
-        if same_name(bytes, links, o, q) {
-            return false;
-        }
-        q = usize::from(next[q]);
-    }
-    true
-}
-
 // No slot above o has the name of the object in slot o, by the table of the objects above o, which gets it too.
 pub(crate) fn enter(
     bytes: &[u8],
     links: &[u16],
-    heads: &mut [u8],
-    next: &mut [u8],
+    heads: &mut [u16],
+    next: &mut [u16],
     o: usize,
 ) -> bool
     requires sizes { BytesLinks bytes.now links.now }
@@ -71,10 +55,5 @@ pub(crate) fn enter(
     }
     let serial = field(links, MAX_OBJECTS, SERIAL, o);
     let at = place_of(field(bytes, MAX_OBJECTS, VOLUME, o), serial);
-    let head = heads[at];
-    let new = name_is_new(bytes, links, next, o, usize::from(head));
-    // kept: a slot is 64 at the most; `try_from` would give `enter` a refusal that it cannot have.
-    heads[at] = o as u8;
-    next[o] = head;
-    new
+    table::enter(heads, next, at, o, |q| same_name(bytes, links, o, q))
 }

@@ -6,9 +6,10 @@ ghost use Rattle.std.specs.Prelude.{◌≡◌, ◌≤◌, ◌<◌};
 ghost use Rattle.rules.specs.Limit;
 ghost use Rattle.layout.specs.Decides.{Decides};
 ghost use Rattle.layout.specs.Sizes.{LinksWords};
-ghost use Rattle.check_rows.specs.Buckets.{NoneFrom, Chained, Buckets, Entered};
+ghost use Rattle.check_rows.specs.Buckets.{Buckets, Entered};
 ghost use Rattle.check_passwords.specs.Passwords.{SamePassword, bucket, passwords};
 
+use check_rows::table;
 use layout::rows::field;
 use layout::{OWNER, P1};
 use values::limit::MAX_CAPS;
@@ -36,23 +37,6 @@ fn same_password(links: &[u16], words: &[u32], i: usize, j: usize) -> bool
     owner == field(links, MAX_CAPS, OWNER, j)
 }
 
-// No slot in the chain from slot `head` on has the object and the p1 of slot i.
-fn password_is_new(links: &[u16], words: &[u32], next: &[u16], i: usize, head: usize) -> bool
-    requires sizes { LinksWords links.now words.now }
-    requires chain { Chained Limit.caps next.now i head }
-    ensures { Decides (NoneFrom (SamePassword links.now words.now)
-        next.now i head) result }
-{
-    let mut j = head;
-    while 0 < j {
-        if same_password(links, words, i, j) {
-            return false;
-        }
-        j = usize::from(next[j]);
-    }
-    true
-}
-
 // No slot above i has the object and the p1 of slot i, by the table of the slots above i, which gets slot i too.
 pub fn enter(links: &[u16], words: &[u32], heads: &mut [u16], next: &mut [u16], i: usize) -> bool
     requires sizes { LinksWords links.now words.now }
@@ -63,10 +47,5 @@ pub fn enter(links: &[u16], words: &[u32], heads: &mut [u16], next: &mut [u16], 
 {
     let owner = field(links, MAX_CAPS, OWNER, i);
     let at = bucket_of(owner, field(words, MAX_CAPS, P1, i));
-    let head = heads[at];
-    let new = password_is_new(links, words, next, i, usize::from(head));
-    // kept: a slot is 512 at the most; `try_from` would give `enter` a refusal that it cannot have.
-    heads[at] = i as u16;
-    next[i] = head;
-    new
+    table::enter(heads, next, at, i, |j| same_password(links, words, i, j))
 }

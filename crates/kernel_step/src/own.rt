@@ -39,6 +39,7 @@ pub(crate) fn own(
         (slices bytes.old links.old words.old buffer.old scratch.old)
         (slices bytes.new links.new words.new buffer.new scratch.new) }
 {
+    // kept: 01 has "a decision over call numbers 1 to 16" here, and no enum of calls
     match req.number {
         1 => make_obj(bytes, links, words, req),
         2 => read(bytes, links, words, buffer, k, req.range),

@@ -8,14 +8,22 @@ ghost use Rattle.question_window.specs.Asks.{Asks};
 use call_steps::request::{Capability, Name, Reply, Request};
 use kernel_call::call;
 use kernel_step::step;
-use question_window::{Windowed, ask_window, window_of};
+use question_window::{ask_window, window_of};
+use values::refusal::Refusal;
+use values::window::Window;
 
 pub(crate) trait Access {
     // The stores that it is for, by their three slices.
     ghost serves: { List ℕ → List ℕ → List ℕ → Type 0 };
 
     // The window question.
-    fn ask(bytes: &[u8], links: &[u16], words: &[u32], caller: Name, x: Capability) -> Windowed
+    fn ask(
+        bytes: &[u8],
+        links: &[u16],
+        words: &[u32],
+        caller: Name,
+        x: Capability,
+    ) -> Result<Window, Refusal>
         requires { serves bytes.now links.now words.now }
         ensures { Asks bytes.now links.now words.now caller x result };
 
@@ -39,7 +47,13 @@ pub(crate) struct Checked;
 impl Access for Checked {
     ghost serves = { λ bytes links words. Unit {0} };
 
-    fn ask(bytes: &[u8], links: &[u16], words: &[u32], caller: Name, x: Capability) -> Windowed {
+    fn ask(
+        bytes: &[u8],
+        links: &[u16],
+        words: &[u32],
+        caller: Name,
+        x: Capability,
+    ) -> Result<Window, Refusal> {
         ask_window(bytes, links, words, caller, x)
     }
 
@@ -60,7 +74,13 @@ pub(crate) struct Unchecked;
 impl Access for Unchecked {
     ghost serves = { WellFormed };
 
-    fn ask(bytes: &[u8], links: &[u16], words: &[u32], caller: Name, x: Capability) -> Windowed {
+    fn ask(
+        bytes: &[u8],
+        links: &[u16],
+        words: &[u32],
+        caller: Name,
+        x: Capability,
+    ) -> Result<Window, Refusal> {
         window_of(bytes, links, words, caller, x)
     }
 

@@ -16,8 +16,8 @@ use access::{Access, Checked, Unchecked};
 use call_steps::request::{Capability, Name};
 use picked::Picked;
 use repeat::{Place, Repeat};
-use row::{row_request, unread};
-use values::code::{DONE, OUT_OF_RANGE};
+use row::{readable, row_request};
+use values::refusal::Refusal;
 
 // A pick on a store that the access is for.
 fn pick_by<A: Access>(
@@ -36,16 +36,17 @@ fn pick_by<A: Access>(
         (slices bytes.new links.new words.new buffer.new []) }
 {
     if !repeat.fits(place) {
-        return Picked::refused(OUT_OF_RANGE, place);
+        return Picked::refused(Refusal::OutOfRange, place);
     }
-    let a = A::ask(bytes, links, words, caller, x);
-    let code = unread(repeat, a);
-    if code != DONE {
-        return Picked::refused(code, place);
+    let answer = A::ask(bytes, links, words, caller, x);
+    match readable(repeat, answer) {
+        Ok(window) => {
+            let req = row_request(caller, x, window, repeat, place);
+            let r = A::call(bytes, links, words, buffer, req);
+            Picked::by(repeat, place, r)
+        }
+        Err(refusal) => Picked::refused(refusal, place),
     }
-    let req = row_request(caller, x, a.window, repeat, place);
-    let r = A::call(bytes, links, words, buffer, req);
-    Picked::by(repeat, place, r)
 }
 
 // A pick on any store.

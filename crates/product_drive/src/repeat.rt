@@ -5,7 +5,7 @@ ghost use Rattle.product_drive.specs.Drive.{up_to, step_at, repeat_fits, Within,
 use crate::limit::{MAX_COUNTS, MAX_PICKS, MAX_ROW};
 
 // N picks, C motor counts, W bytes a row.
-#[derive(Clone, Copy)]
+#[derive(Clone, Copy, Debug, PartialEq, Eq)]
 pub struct Repeat {
     pub picks: u32,
     pub counts: u32,
@@ -13,7 +13,7 @@ pub struct Repeat {
 }
 
 // The next pick, counted from 1 within the repeat, and the steps so far.
-#[derive(Clone, Copy)]
+#[derive(Clone, Copy, Debug, PartialEq, Eq)]
 pub struct Place {
     pub next: u32,
     pub steps: u32,

@@ -1,4 +1,5 @@
 // Cash pays fees. Nothing here turns it into a moneyword.
+// kept: `below` and `less` are Moneyword's, too, but the two units are kept apart, and a generic over both would turn one into the other
 ghost use Rattle.std.specs.Prelude.{◌≡◌, ◌-◌, ltb};
 
 #[derive(Clone, Copy, Debug, PartialEq, Eq)]

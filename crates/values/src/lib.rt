@@ -4,7 +4,6 @@
 
 pub mod blocks;
 pub mod cash;
-pub mod code;
 pub mod fees;
 pub mod limit;
 pub mod moneyword;

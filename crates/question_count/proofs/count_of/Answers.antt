@@ -50,8 +50,8 @@ returns-in_default c =
     (sym (slot_none _ (c.in_default.ensures a.words.now)))
     (ap (λ p. (s.object 0).live && p) (sym (process-zero a.bytes.now a.links.now a.words.now 0 refl)) ∙ and-false (s.object 0).live))
 
-pub is_process-requires-clause-fact_2 : goal.is_process-requires-clause-fact_2
-is_process-requires-clause-fact_2 c = rw ((slot_of _ _ (c.in-Some.ensures c.args.words.now)).0) (found-high _ _)
+pub is_process-requires-clause-slot : goal.is_process-requires-clause-slot
+is_process-requires-clause-slot c = rw ((slot_of _ _ (c.in-Some.ensures c.args.words.now)).0) (found-high _ _)
 
 pub returns-then-not-is_process : goal.returns-then-not-is_process
 returns-then-not-is_process c =

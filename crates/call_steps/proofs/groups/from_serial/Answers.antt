@@ -1,5 +1,5 @@
 -- `from_serial` meets its contract: a serial that fits a link is looked for from where `skip_groups` stopped.
-use mathlib.Core.Path.{◌≡◌, sym, subst}
+use mathlib.Core.Path.{◌≡◌, subst}
 use Prim.Native.Nat.{ℕ}
 use native.Mathlib.Omega.{arith}
 use Rattle.layout.specs.Layout as Layout

@@ -11,8 +11,11 @@ pub from_serial-last-requires : goal.from_serial-last-requires
 from_serial-last-requires c = c.requires.links
 
 pub loop-o-init : goal.loop-o-init
-loop-o-init c = (omega arith, omega (arith, c.from_serial-last.ensures.high),
-    λ w. before _ (named-from _ _ w (name_of _) _ c.from_serial-last.ensures))
+loop-o-init c = (
+  omega arith,
+  omega (arith, c.from_serial-last.ensures.high),
+  λ w. before _ (named-from _ _ w (name_of _) _ c.from_serial-last.ensures),
+)
 
 pub is_named-requires : goal.is_named-requires
 is_named-requires c = omega arith

@@ -12,10 +12,10 @@ returns-then-bytes-o-eq0-2 c =
     let a = c.args in
     elim c.if-bytes-o-eq0.branch [
       | then-bytes-o-eq0 w ↦ rw (
-          unmarked-is a.bytes.now a.o (omega arith),
-          eq-eqb _ _ w.if-bytes-o-eq0.true,
-          sym w.value-is ∙ c.if-bytes-o-eq0-2.true,
-        )
+        unmarked-is a.bytes.now a.o (omega arith),
+        eq-eqb _ _ w.if-bytes-o-eq0.true,
+        sym w.value-is ∙ c.if-bytes-o-eq0-2.true,
+      )
       | else-bytes-o-eq0 w ↦ absurd (false≢true (sym (ne_eqb _ _ w.if-bytes-o-eq0.false) ∙ sym w.value-is ∙ c.if-bytes-o-eq0-2.true))
     ]
 
@@ -24,9 +24,9 @@ returns-else-bytes-o-eq0-2 c =
     let a = c.args in
     elim c.if-bytes-o-eq0.branch [
       | then-bytes-o-eq0 w ↦ rw (
-          unmarked-is a.bytes.now a.o (omega arith),
-          eq-eqb _ _ w.if-bytes-o-eq0.true,
-          sym w.value-is ∙ c.if-bytes-o-eq0-2.false,
-        ) c.if-bytes-o-eq0-2.false
+        unmarked-is a.bytes.now a.o (omega arith),
+        eq-eqb _ _ w.if-bytes-o-eq0.true,
+        sym w.value-is ∙ c.if-bytes-o-eq0-2.false,
+      ) c.if-bytes-o-eq0-2.false
       | else-bytes-o-eq0 w ↦ rw (unmarked-is a.bytes.now a.o (omega arith), ne_eqb _ _ w.if-bytes-o-eq0.false) c.if-bytes-o-eq0-2.false
     ]
