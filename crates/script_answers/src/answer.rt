@@ -25,21 +25,13 @@ fn push(out: &mut [u8], at: usize, v: u32) -> usize
     put_number(out, p, v)
 }
 
-fn wide(b: u8) -> u32
-    ensures { result ≡ b }
-{
-    b as u32
-}
-
 fn push_bytes(out: &mut [u8], at: usize, bytes: &[u8], count: usize) -> usize
     requires { (count ≤ length bytes.now) × (at + 11 * count ≤ length out.old) }
     ensures { Pushed (11 * count) out.old at (take count bytes.now) out.new result }
 {
     let mut p = at;
-    let mut i = 0;
-    while i < count {
-        p = push(out, p, wide(bytes[i]));
-        i += 1;
+    for byte in &bytes[..count] {
+        p = push(out, p, u32::from(*byte));
     }
     p
 }

@@ -18,10 +18,8 @@ fn all_masters(links: &[u16], words: &[u32]) -> u64
     ensures { (b : List ℕ) → MastersAre b links.now words.now result }
 {
     let mut total: u64 = 0;
-    let mut i: usize = MAX_CAPS;
-    while 0 < i {
-        total += money_at(links, words, i).0 as u64;
-        i -= 1;
+    for i in (1..=MAX_CAPS).rev() {
+        total += u64::from(money_at(links, words, i).0);
     }
     total
 }

@@ -14,7 +14,7 @@ pub returns-then-numbers-fields : goal.returns-then-numbers-fields
 unfolding Table.computes
 returns-then-numbers-fields c =
     let k = itself _ c.requires in
-    lacking-one _ _ _ _ (place_in last_day _ _ k) c.if-place-eq0.false (c.wide-fields.ensures ∙ length-in _ _ k)
+    lacking-one _ _ _ _ (place_in last_day _ _ k) c.if-place-eq0.false (c.from-fields.ensures ∙ length-in _ _ k)
     c.if-numbers-fields.true
 
 pub returns-then-numbers-fields-2 : goal.returns-then-numbers-fields-2
@@ -22,11 +22,11 @@ unfolding Table.computes
 returns-then-numbers-fields-2 c =
     let k = itself _ c.requires in
     lacking-two _ _ _ _ (place_in last_day _ _ k) c.if-place-eq0.false
-    (c.wide-fields.ensures ∙ length-in _ _ k) c.if-numbers-fields.false c.if-numbers-fields-2.true
+    (c.from-fields.ensures ∙ length-in _ _ k) c.if-numbers-fields.false c.if-numbers-fields-2.true
 
 pub returns : goal.returns
 unfolding Table.computes
 returns c =
     let k = itself _ c.requires in
     lacking-other _ _ _ _ (place_in last_day _ _ k) c.if-place-eq0.false
-    (c.wide-fields.ensures ∙ length-in _ _ k) c.if-numbers-fields.false c.if-numbers-fields-2.false
+    (c.from-fields.ensures ∙ length-in _ _ k) c.if-numbers-fields.false c.if-numbers-fields-2.false

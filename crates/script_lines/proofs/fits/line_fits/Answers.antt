@@ -20,10 +20,10 @@ returns-then-text-eq0 c =
     let k = of_number c.column-call.ensures c.nth-number.ensures in
     fits-exactly _ l _ _ _
     (call-is l _ _ _ c.nth-number.ensures c.is_call.ensures c.if-not-is_call.false)
-    (c.wide-text.ensures ∙ place_in text _ _ k)
+    (c.from-text.ensures ∙ place_in text _ _ k)
     c.if-text-eq0.true
-    (c.wide.ensures ∙ c.lacking.ensures ∙ ap (λ (o : Op). lacking o l) k.1)
-    (c.wide-then-text-eq0.ensures ∙ length-in _ _ k)
+    (c.from.ensures ∙ c.lacking.ensures ∙ ap (λ (o : Op). lacking o l) k.1)
+    (c.from-then-text-eq0.ensures ∙ length-in _ _ k)
 
 pub returns : goal.returns
 unfolding Table.computes
@@ -32,4 +32,4 @@ returns c =
     let k = of_number c.column-call.ensures c.nth-number.ensures in
     fits-or-more _ l _ _
     (call-is l _ _ _ c.nth-number.ensures c.is_call.ensures c.if-not-is_call.false)
-    (c.wide-text.ensures ∙ place_in text _ _ k) c.if-text-eq0.false c.ends_in_bytes.ensures
+    (c.from-text.ensures ∙ place_in text _ _ k) c.if-text-eq0.false c.ends_in_bytes.ensures
