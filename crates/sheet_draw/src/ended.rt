@@ -1,5 +1,7 @@
 // What a line ended: the capabilities that lived before it and do not live after it. A new master may take an ended
 // one's slot: its password is another.
+ghost use Rattle.std.specs.Prelude.{◌≡◌, ◌≢◌};
+
 use crate::store::Store;
 use std::{array, fmt};
 use values::limit::MAX_CAPS;
@@ -16,7 +18,11 @@ pub enum Ending {
 
 impl Ending {
     // The call of a line that begins with this digit alone.
-    pub fn of_digit(digit: u8) -> Option<Ending> {
+    pub fn of_digit(digit: u8) -> Option<Ending>
+        ensures delete { digit ≡ 54 → result ≡ Some Ending.DeleteCap }
+        ensures rename { digit ≡ 55 → result ≡ Some Ending.RenameObj }
+        ensures other { digit ≢ 54 → digit ≢ 55 → result ≡ None }
+    {
         match digit {
             b'6' => Some(Ending::DeleteCap),
             b'7' => Some(Ending::RenameObj),
