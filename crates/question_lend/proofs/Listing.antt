@@ -32,7 +32,7 @@ module _ (t : ℕ → Bool) (n : ℕ) where
   unfolding some
   none-some none =
       let zero : find n t ≡ 0 = by-eq (find n t) 0 (λ e. e)
-          (λ ne. let f = find-finds n t ne in absurd (none (find n t) (omega arith) f.1 f.0)) in
+      (λ ne. let f = find-finds n t ne in absurd (none (find n t) (omega arith) f.1 f.0)) in
       rw (eq-eqb (find n t) 0 zero)
 
 -- ---- a list as a whole

@@ -38,7 +38,5 @@ fn names_fit(list: &[u32]) -> bool
 pub fn list_fits(list: &[u32]) -> bool
     ensures { result ≡ list_fits list.now }
 {
-    list.len() % ENTRY_NUMBERS == 0
-        && list.len() / ENTRY_NUMBERS <= MAX_ENTRIES
-        && names_fit(list)
+    list.len() % ENTRY_NUMBERS == 0 && list.len() / ENTRY_NUMBERS <= MAX_ENTRIES && names_fit(list)
 }

@@ -114,7 +114,7 @@ pub fn answer_line(
     requires room { at + Room-as-ANSWER ≤ length out.old }
     ensures { Put Room-as-ANSWER out.old at
         (line_of (line ∷ script_answer_of (op number)
-            (answer_of reply (take (count_of reply) buffer.now))))
+        (answer_of reply (take (count_of reply) buffer.now))))
         out.new result }
 {
     let p = put_digits(out, at, line);
