@@ -179,7 +179,7 @@ turned s₀ held₀ out₀ w held window input₀ input out x (Some y) got f e h
   got = got;
   passed = subst (λ (v : List ℕ). Passed s₀ held₀ v out₀ x (store_in w) held out y) e f.passed;
 }
-turned s₀ held₀ out₀ w held window input₀ input out x None got f e h = tt
+turned s₀ held₀ out₀ w held window input₀ input out x None got f e h = f
 
 -- ---- the end of the input
 

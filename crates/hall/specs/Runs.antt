@@ -90,18 +90,18 @@ pub record Turned (s₀ : Store) (held₀ out₀ : List ℕ) (w : Workspace) (he
   pub got : ℕ
   pub passed : Passed s₀ held₀ (take got input) out₀ x (store_in w) held out y
 
--- where a write failed, or the input is over, nothing goes on
+-- where a write failed, or the input is over, nothing goes on, and the store is well formed
 abbrev pub MadeRoom : List ℕ → Run → Option Run → Type 0
 MadeRoom out x (Some y) = Roomy out x y
 MadeRoom out x None = Unit {0}
 
 abbrev pub FedIf : Store → List ℕ → List ℕ → Workspace → List ℕ → List ℕ → List ℕ → Run → Option Run → Type 0
 FedIf s₀ held₀ out₀ w held window out x (Some y) = AllFed s₀ held₀ out₀ w held window out x y
-FedIf s₀ held₀ out₀ w held window out x None = Unit {0}
+FedIf s₀ held₀ out₀ w held window out x None = Formed (store_in w)
 
 abbrev pub TurnedIf : Store → List ℕ → List ℕ → Workspace → List ℕ → List ℕ → List ℕ → List ℕ → Run → Option Run → Type 0
 TurnedIf s₀ held₀ out₀ w held input₀ input out x (Some y) = Turned s₀ held₀ out₀ w held input₀ input out x y
-TurnedIf s₀ held₀ out₀ w held input₀ input out x None = Unit {0}
+TurnedIf s₀ held₀ out₀ w held input₀ input out x None = Formed (store_in w)
 
 -- before the first turn
 pub record Begins (w : Workspace) (held input out : List ℕ) : Type 0 where

@@ -30,7 +30,7 @@ fn ending_call(number: u64, held: &[u8], window: &[u8]) -> Option<Ending> {
 }
 
 // The store that a script is played on, to be drawn.
-pub fn drawn<'a>(room: &'a Workspace<'a>) -> Store<'a>
+pub(crate) fn drawn<'a>(room: &'a Workspace<'a>) -> Store<'a>
     ensures bytes { result.bytes.now ≡ room.now.bytes.now }
     ensures links { result.links.now ≡ room.now.links.now }
     ensures words { result.words.now ≡ room.now.words.now }
@@ -69,7 +69,7 @@ fn one_line(
             line: begun.number,
             call,
         };
-        // what cannot be written is left out, and the run goes on
+        // a failed write is passed over, and the run goes on
         let _ = write!(out, "{ended}");
     }
     fed.run

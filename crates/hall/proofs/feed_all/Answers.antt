@@ -1,5 +1,8 @@
 -- `feed_all` has fed what came before place `from`; with room, a byte at least is taken.
+use mathlib.Core.Path.{sym, subst}
 use native.Mathlib.Omega.{arith}
+use Rattle.script_driver.specs.Parts.{store_in}
+use Rattle.hall.specs.Runs.{FedIf}
 use Rattle.hall.proofs.Going.{going_start, feed-asked, taken-some, taken-within, going_on, going_done}
 use Rattle.hall.proofs.feed_all.Goals as goal
 
@@ -28,3 +31,10 @@ loop-from-preserved c =
 
 pub returns : goal.returns
 returns c = going_done c.loop-from.invariant (omega (arith, c.loop-from-test.false))
+
+-- a write failed
+pub returns-in_err-ready : goal.returns-in_err-ready
+returns-in_err-ready c =
+    let a = c.args in
+    subst (λ r. FedIf (store_in a.room.now) a.held.now a.out.now c.loop-from.room c.loop-from.held a.window.now c.loop-from.out a.begun r)
+    (sym c.from_residual.ensures) c.loop-from.invariant.stands.formed
