@@ -55,7 +55,6 @@ later-line {number = number} h =
           allowed = p.allowed;
           answer = p.answer;
           rules = p.rules;
-          said = p.said;
           exact = p.exact;
           bad = p.bad;
           formed = p.formed;

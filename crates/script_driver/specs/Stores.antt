@@ -10,7 +10,7 @@ use Rattle.layout.specs.WellFormed.{WellFormed}
 use Rattle.kernel_step.specs.Run.{step_run}
 use Rattle.script_text.specs.Numeral.{line_of}
 use Rattle.script_answers.specs.Ends.{totals_line}
-use Rattle.script_play.specs.Plays.{line_with, Unchanged, Said}
+use Rattle.script_play.specs.Plays.{line_with, Unchanged}
 use Rattle.script_play.specs.Starts.{Begun}
 use Rattle.script_driver.specs.Machine.{Machine}
 
@@ -31,7 +31,6 @@ pub record Played (k : ℕ) (s : Store) (ns out : List ℕ) (s' : Store) : Type 
   pub allowed : line_fits (op (nth ns 0)) ns ≡ true → Allowed (state_of s) (call_of (op (nth ns 0)) ns) choice
   pub answer : Answer
   pub rules : line_with choice (state_of s) ns ≡ record { answer = answer; after = state_of s' }
-  pub said : Said answer
   -- and they are the exact run's, which says what is taken where 01 leaves it open
   pub exact : line_fits (op (nth ns 0)) ns ≡ true → step_run s.bytes s.links s.words (call_of (op (nth ns 0)) ns)
       ≡ record { answer = answer; bytes = s'.bytes; links = s'.links; words = s'.words }

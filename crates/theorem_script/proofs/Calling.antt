@@ -35,13 +35,14 @@ use Rattle.script_answers.specs.Ends.{totals_line}
 use Rattle.script_answers.specs.Output.{MeanAll, none, more}
 use Rattle.script_play.specs.Plays.{Said}
 use Rattle.script_play.specs.Starts.{password_in, Begun}
-use Rattle.script_play.proofs.Playing.{line-bad}
+use Rattle.script_play.proofs.Playing.{line-good, line-bad}
 use Rattle.script_driver.specs.Machine.{Fit}
 use Rattle.script_driver.specs.Turns.{opening, closed, playing, At, Goes, good, bad, unplayed, later}
 use Rattle.script_driver.specs.Turns.{Closes, absent, refused, totals, Lines, line}
 use Rattle.script_driver.specs.Turns as Turns
 use Rattle.script_driver.specs.Stores.{Store, Formed, state_of, Played, stores}
 use Rattle.theorem_script.proofs.Following.{means-fit}
+use Rattle.theorem_script.proofs.Replying.{rule-said}
 use Rattle.theorem_script.specs.Events as Events
 use Rattle.theorem_script.specs.Events.{answer_in, MakesCalls, over, call}
 
@@ -99,6 +100,11 @@ module _ {k : ℕ} {s s' : Store} {ns out : List ℕ} (W : Formed s) (p : Played
   abbrev a : Answer
   a = p.answer
 
+  -- the answer is the rules', and so some reply's
+  said : Said a
+  said = subst Said (ap (λ (o : Outcome). o.answer) (sym (line-good p.choice (state_of s) ns fits) ∙ p.rules))
+      (rule-said (state_of s) c p.choice)
+
   -- the buffer and the scratch are lent full of zeros
   buffer : List ℕ
   buffer = replicate c.buffer 0
@@ -113,7 +119,7 @@ module _ {k : ℕ} {s s' : Store} {ns out : List ℕ} (W : Formed s) (p : Played
     text = c.text;
     buffer = buffer;
     scratch = scratch;
-    reply = p.said.reply;
+    reply = said.reply;
     store = as_store s';
     buffer-after = overlay a.bytes buffer;
     scratch_after = scratch_after_call (op c.number) a.code scratch;
@@ -125,7 +131,7 @@ module _ {k : ℕ} {s s' : Store} {ns out : List ℕ} (W : Formed s) (p : Played
 
   event-answer : answer_in event ≡ a
   unfolding event
-  event-answer = front-says a p.said buffer
+  event-answer = front-says a said buffer
 
   abbrev was : Slices
   was = lent (as_store s) buffer scratch
@@ -136,10 +142,10 @@ module _ {k : ℕ} {s s' : Store} {ns out : List ℕ} (W : Formed s) (p : Played
   abbrev done : Ran
   done = record { answer = a; bytes = s'.bytes; links = s'.links; words = s'.words }
 
-  ends : Ends c done p.said.reply was is
+  ends : Ends c done said.reply was is
   unfolding event
   ends = record {
-    replies = record { answer = event-answer; count = p.said.count; buffer-is = refl };
+    replies = record { answer = event-answer; count = said.count; buffer-is = refl };
     store = record { bytes = refl; links = refl; words = refl };
     scratch = refl;
   }
@@ -147,11 +153,11 @@ module _ {k : ℕ} {s s' : Store} {ns out : List ℕ} (W : Formed s) (p : Played
   event-happens : Happens (as_store s) event
   unfolding event
   event-happens =
-      let run : Ends c (step_run s.bytes s.links s.words c) p.said.reply was is =
-      subst (λ (x : Ran). Ends c x p.said.reply was is) (sym (p.exact fits)) ends in
+      let run : Ends c (step_run s.bytes s.links s.words c) said.reply was is =
+      subst (λ (x : Ran). Ends c x said.reply was is) (sym (p.exact fits)) ends in
       calls-step W (stepped W
       (subst Words (sym event-call) (p.allowed fits).words)
-      (subst (λ (x : Call). Ends x (step_run s.bytes s.links s.words x) p.said.reply was is) (sym event-call) run))
+      (subst (λ (x : Call). Ends x (step_run s.bytes s.links s.words x) said.reply was is) (sym event-call) run))
 
 -- ---- a list of lines
 
