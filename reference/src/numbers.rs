@@ -1,5 +1,5 @@
 //! 01's numbers by name and those of 02, each written once here: answers and limits as in the
-//! verified code (crates/values/src/code.rt and limit.rt, and limit.rt of crates/product_drive and
+//! verified code (crates/values/src/refusal.rt and limit.rt, and limit.rt of crates/product_drive and
 //! crates/product_royalties, held to these by a test), rights, and the longest line.
 
 /// The call was done.

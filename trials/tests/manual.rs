@@ -35,6 +35,11 @@ fn number(digits: &str) -> Option<u32> {
     digits.replace([',', '_'], "").parse().ok()
 }
 
+/// By names without case and underscores: an answer is `NotFound` in the code, `NOT_FOUND` in the reference.
+fn plain(named: BTreeMap<&str, u32>) -> BTreeMap<String, u32> {
+    named.into_iter().map(|(name, n)| (name.replace('_', "").to_lowercase(), n)).collect()
+}
+
 #[test]
 fn calls() {
     let rights = constants(NUMBERS.split_once("pub mod right").expect("the rights").1);
@@ -81,7 +86,8 @@ fn rights_answers_and_limits() {
     }
     let mut ours = constants(outer);
     ours.remove("MAX_LINE");
-    assert_eq!(said, ours);
+    assert_eq!(said.len(), ours.len());
+    assert_eq!(plain(said), plain(ours));
 }
 
 /// Each table of script lines has beside them what the reference writes; the first is the example.

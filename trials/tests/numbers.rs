@@ -3,7 +3,7 @@
 use std::collections::BTreeMap;
 
 const REFERENCE: &str = include_str!("../../reference/src/numbers.rs");
-const CODES: &str = include_str!("../../crates/values/src/code.rt");
+const REFUSALS: &str = include_str!("../../crates/values/src/refusal.rt");
 const LIMITS: &str = include_str!("../../crates/values/src/limit.rt");
 const DRIVE: &str = include_str!("../../crates/product_drive/src/limit.rt");
 const ROYALTIES: &str = include_str!("../../crates/product_royalties/src/limit.rt");
@@ -26,10 +26,31 @@ fn constants(text: &str) -> BTreeMap<&str, u64> {
     found
 }
 
+/// A variant's name as a constant's: `BoxFull` is `BOX_FULL`.
+fn screaming(name: &str) -> String {
+    let words = name.char_indices().map(|(i, c)| match c {
+        'A'..='Z' if i > 0 => format!("_{c}"),
+        _ => c.to_ascii_uppercase().to_string(),
+    });
+    words.collect()
+}
+
+/// The refusals by the lines `Refusal::Name => number,`.
+fn refusals(text: &str) -> BTreeMap<String, u64> {
+    let line = |line: &str| {
+        let (name, number) = line.trim().strip_prefix("Refusal::")?.split_once(" => ")?;
+        Some((screaming(name), number.strip_suffix(',')?.parse().ok()?))
+    };
+    text.lines().filter_map(line).collect()
+}
+
 #[test]
 fn numbers_are_the_same() {
     let (outer, rights) = REFERENCE.split_once("pub mod right").expect("the rights");
-    let mut verified = constants(CODES);
+    // the number of what is done, then the refusals
+    let mut verified = constants(REFUSALS);
+    let named = refusals(REFUSALS);
+    verified.extend(named.iter().map(|(name, number)| (name.as_str(), *number)));
     assert_eq!(verified.len(), 22);
     verified.extend(constants(LIMITS));
     for (product, count) in [(DRIVE, 3), (ROYALTIES, 7)] {

@@ -43,6 +43,10 @@ last_block {l} {n} a h k e =
     let t = hop-block (next_block_of l) (free_head l) a.chain.0 a.chain.1 (n - 1) (omega (arith, a.chain.2)) in
     rw e (record { low = t.0; high = t.1 })
 
+-- the last that is taken is one
+pub taken-block : {l : List ℕ} {n k : ℕ} → Enough l n → n ≢ 0 → k ≡ last_taken l n → Block k
+taken-block {l} {n} a h e = last_block a h _ (e ∙ last-free l n h)
+
 -- ---- the chain cut
 
 pub taken_none : (l : List ℕ) (o n : ℕ) → n ≡ 0 → set l (Layout.FIRST_BLOCK + o) 0 ≡ taken_links l o n

@@ -4,7 +4,10 @@ use mathlib.Core.Path.{◌≡◌, refl, sym, ap, ◌∙◌}
 use mathlib.Core.List.{List, [], ◌∷◌}
 use native.Mathlib.Omega.{arith}
 use native.Mathlib.Numerals.{add-one}
-use lib.ListN.{length, set, length-set}
+use lib.ListN.{length, set, take, drop, replicate, length-set, length-drop, length-replicate, get_or-replicate}
+use lib.Seq.{paste, paste-zero, paste-suc, length-take-le}
+use borrow.Rule.Slice.PartMut.{put_mid}
+use Rattle.std.proofs.lemmas.Slice.{put_mid-paste}
 use Rattle.layout.specs.Layout as Layout
 use Rattle.layout.specs.Rows.{next_block_of}
 use Rattle.layout.specs.Shape.{Chain}
@@ -72,30 +75,24 @@ unfolding zeroed
 zeroed-length zero from b = refl
 zeroed-length (suc n) from b = length-set (zeroed n from b) (from + n) 0 ∙ zeroed-length n from b
 
--- the turns of the loop over a block
-pub record Zeroing (b b' : List ℕ) (k i : ℕ) : Type 0 where
-  pub below : i ≤ 64
-  pub is : b' ≡ zeroed i (data_from k) b
-
-pub zeroing-length : {b b' : List ℕ} {k i : ℕ} → Zeroing b b' k i → length b' ≡ length b
-zeroing-length {b} {b'} {k} {i} z = ap length z.is ∙ zeroed-length i (data_from k) b
-
-pub zeroing-none : (b : List ℕ) (k : ℕ) → Zeroing b b k 0
+zeroed-paste : (n m from : ℕ) (b : List ℕ) → from + n ≤ length b → n ≤ m → zeroed n from b ≡ paste b from (replicate m 0) n
 unfolding zeroed
-zeroing-none b k = record { below = omega arith; is = refl }
+zeroed-paste zero m from b h k = paste-zero b from (replicate m 0)
+zeroed-paste (suc n) m from b h k =
+    let long : length (replicate {A = ℕ} m 0) ≡ m = length-replicate {A = ℕ} m 0 in
+    ap (λ l. set l (from + n) 0) (zeroed-paste n m from b (omega arith) (omega arith))
+    ∙ ap (set (paste b from (replicate m 0) n) (from + n)) (sym (get_or-replicate m n 0 0 (omega arith)))
+    ∙ paste-suc b from (replicate m 0) n 0 (omega arith) (omega arith)
 
-pub zeroing-more : {b b' : List ℕ} {k i : ℕ} → Zeroing b b' k i → i < 64
-    → Zeroing b (set b' (data_from k + i) 0) k (i + 1)
-unfolding zeroed
-zeroing-more {b} {b'} {k} {i} z h = record {
-  below = omega arith;
-  is = rw (add-one i, zeroed) (ap (λ x. set x (data_from k + i) 0) z.is);
-}
-
-pub zeroing-all : {b b' : List ℕ} {k i : ℕ} → Zeroing b b' k i → 64 ≤ i → b' ≡ zeroed 64 (data_from k) b
-zeroing-all {b} {b'} {k} {i} z h =
-    let e : i ≡ 64 = omega (arith, z.below) in
-    z.is ∙ ap (λ m. zeroed m (data_from k) b) e
+-- the library's fill of a part with zeros
+pub zeroed-fill : (b part : List ℕ) (from end n : ℕ) → end ≡ from + n → from + n ≤ length b
+    → part ≡ replicate (length (take (end - from) (drop from b))) 0 → put_mid from (end - from) b part ≡ zeroed n from b
+zeroed-fill b part from end n e fits p =
+    let room : end - from ≤ length (drop from b) = omega (arith, length-drop from b) in
+    let long : length (take (end - from) (drop from b)) ≡ n = length-take-le (end - from) (drop from b) room ∙ omega arith in
+    put_mid-paste from (end - from) b part (replicate n 0) n (p ∙ ap (λ m. replicate m 0) long) (omega arith)
+    (sym (length-replicate n 0))
+    ∙ sym (zeroed-paste n n from b fits (omega arith))
 
 -- the turns of the loop over the blocks
 pub record Clearing (next : ℕ → ℕ) (head n : ℕ) (b b' : List ℕ) (i block : ℕ) : Type 0 where

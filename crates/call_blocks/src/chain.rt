@@ -16,7 +16,7 @@ pub fn next_block(links: &[u16], k: usize) -> usize
     if k == 0 {
         return 0;
     }
-    links[NEXT_BLOCK + k] as usize
+    usize::from(links[NEXT_BLOCK + k])
 }
 
 // The block n steps after the first, 0 if the chain ends before.
@@ -25,10 +25,8 @@ pub fn block_at(links: &[u16], head: usize, n: usize) -> usize
     ensures { result ≡ hop (next_block_of links.now) n head }
 {
     let mut block = head;
-    let mut i: usize = 0;
-    while i < n {
+    for _ in 0..n {
         block = next_block(links, block);
-        i += 1;
     }
     block
 }
@@ -38,7 +36,7 @@ pub(crate) fn free_head(links: &[u16]) -> usize
     requires { length links.now ≡ Layout.LINKS }
     ensures { result ≡ free_head links.now }
 {
-    links[FREE_BLOCKS] as usize
+    usize::from(links[FREE_BLOCKS])
 }
 
 // There are fewer than n free blocks.

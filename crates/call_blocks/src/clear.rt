@@ -13,11 +13,8 @@ fn clear_block(bytes: &mut [u8], k: usize)
     requires { (length bytes.old ≡ Layout.BYTES) × (k ≤ Limit.blocks) }
     ensures { bytes.new ≡ zeroed Limit.block (data_from k) bytes.old }
 {
-    let mut i: usize = 0;
-    while i < BLOCK_SIZE {
-        bytes[DATA + k * BLOCK_SIZE + i] = 0;
-        i += 1;
-    }
+    let from = DATA + k * BLOCK_SIZE;
+    bytes[from..from + BLOCK_SIZE].fill(0);
 }
 
 // The bytes of the first n free blocks; the last of the blocks, 0 if there is none.
@@ -29,12 +26,10 @@ pub fn clear(bytes: &mut [u8], links: &[u16], n: usize) -> usize
 {
     let mut block = free_head(links);
     let mut last: usize = 0;
-    let mut i: usize = 0;
-    while i < n {
+    for _ in 0..n {
         clear_block(bytes, block);
         last = block;
         block = next_block(links, block);
-        i += 1;
     }
     last
 }

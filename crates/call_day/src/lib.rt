@@ -6,10 +6,10 @@ ghost use Rattle.layout.specs.Layout;
 ghost use Rattle.call_steps.specs.Replies.{Replies};
 ghost use Rattle.call_day.specs.Runs.{day_run};
 
-use call_steps::request::Reply;
+use call_steps::request::{Given, Reply};
 use layout::DAY;
-use values::code::{EARLIER_DAY, OUT_OF_RANGE};
 use values::limit::MAX_DAY;
+use values::refusal::Refusal;
 
 // 2 the day is above 65,535; 20 it is before the store's.
 pub fn set_day(links: &mut [u16], day: u32) -> Reply
@@ -17,12 +17,12 @@ pub fn set_day(links: &mut [u16], day: u32) -> Reply
     ensures { (b w : List ℕ) → Replies result b links.new w (day_run b links.old w day) }
 {
     if day > MAX_DAY {
-        return Reply::refused(OUT_OF_RANGE);
+        return Err(Refusal::OutOfRange);
     }
     let new = day as u16;
     if new < links[DAY] {
-        return Reply::refused(EARLIER_DAY);
+        return Err(Refusal::EarlierDay);
     }
     links[DAY] = new;
-    Reply::done()
+    Ok(Given::done())
 }

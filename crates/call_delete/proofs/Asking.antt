@@ -15,7 +15,8 @@ use Rattle.layout.specs.View.{view}
 use Rattle.layout.proofs.Field.{field_in}
 use Rattle.layout.proofs.Kept.{cells-kept}
 use Rattle.layout.proofs.Shaped.{CapShaped, shaped}
-use Rattle.call_steps.specs.declared.request.Reply.{Reply}
+use Rattle.call_steps.specs.Request.{Reply}
+use Rattle.values.specs.Refusals.{code_of}
 use Rattle.call_steps.specs.Run.{over}
 use Rattle.call_steps.specs.Replies.{Gives}
 use Rattle.call_steps.proofs.Replying.{gives-code, done-is}
@@ -56,7 +57,7 @@ module _ {b l w : List ℕ} {k : ℕ} (a : DeleteAsks b l w k) where
   unfolding done code
   deletes {scratch} {r = r} G e z = record {
     replies = done-is G e;
-    scratch-left = z ∙ scratch-done r.code scratch (gives-code G (view b l w));
+    scratch-left = z ∙ scratch-done (code_of r) scratch (gives-code G (view b l w));
   }
 
   -- ---- a master, once its descendants have ended

@@ -8,7 +8,8 @@ use Rattle.layout.specs.Rows.{owner_of, parent_of}
 use Rattle.layout.specs.View.{view}
 use Rattle.layout.specs.Shape.{Shape}
 use Rattle.layout.specs.WellFormed.{Sized, Cells}
-use Rattle.call_steps.specs.declared.request.Reply.{Reply}
+use Rattle.call_steps.specs.Request.{Reply}
+use Rattle.values.specs.Refusals.{code_of}
 use Rattle.call_steps.specs.Run.{Held, Ran, over}
 use Rattle.call_steps.specs.Replies.{Replies}
 use Rattle.call_prune.specs.Links.{pruned_links, deleted_links}
@@ -51,4 +52,4 @@ pub record MasterEnds (b l w : List ℕ) (k : ℕ) (l' w' : List ℕ) : Type 0 w
 -- the reply r and the slices that are left are the run; the scratch is as its code says
 pub record Deletes (b l w scratch : List ℕ) (k : ℕ) (r : Reply) (l' w' scratch' : List ℕ) : Type 0 where
   pub replies : Replies r b l' w' (delete_run b l w k)
-  pub scratch-left : scratch' ≡ scratch_left r.code scratch
+  pub scratch-left : scratch' ≡ scratch_left (code_of r) scratch

@@ -8,8 +8,8 @@ use call_ending::end::end_object;
 use call_prune::below::prune_below;
 use call_prune::delete::delete_child;
 use call_prune::scratch::clear;
-use call_steps::request::Reply;
-use layout::{OWNER, PARENT, slot};
+use call_steps::request::{Given, Reply};
+use layout::{OWNER, PARENT};
 
 // Of a master, in slot k: all below it end, then its object and it.
 fn delete_master(bytes: &[u8], links: &mut [u16], words: &mut [u32], k: usize)
@@ -17,7 +17,7 @@ fn delete_master(bytes: &[u8], links: &mut [u16], words: &mut [u32], k: usize)
     ensures { MasterEnds bytes.now links.old words.old k
         links.new words.new }
 {
-    let o = slot(links[OWNER + k]);
+    let o = usize::from(links[OWNER + k]);
     prune_below(links, k);
     end_object(bytes, links, words, o, k);
 }
@@ -37,8 +37,8 @@ pub fn delete_cap(
     clear(scratch);
     if links[PARENT + k] == 0 {
         delete_master(bytes, links, words, k);
-        return Reply::done();
+    } else {
+        delete_child(links, k);
     }
-    delete_child(links, k);
-    Reply::done()
+    Ok(Given::done())
 }

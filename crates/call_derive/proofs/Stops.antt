@@ -18,7 +18,7 @@ use Rattle.layout.specs.Layout as Layout
 use Rattle.layout.specs.Rows.{owner_of}
 use Rattle.layout.specs.View.{view}
 use Rattle.layout.proofs.Field.{row}
-use Rattle.call_steps.specs.declared.request.Reply.{Reply}
+use Rattle.call_steps.specs.Request.{Reply}
 use Rattle.call_steps.specs.Refuses.{Refuses}
 use Rattle.call_steps.specs.Replies.{Gives, Replies}
 use Rattle.call_steps.specs.Tests.{CapSlot, taken}

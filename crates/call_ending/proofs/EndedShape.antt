@@ -25,7 +25,7 @@ use Rattle.call_blocks.specs.Walk.{hop}
 use Rattle.call_blocks.proofs.Hops.{hop-block}
 use Rattle.call_ending.specs.Links.{last_block, is_before, before, BlocksAsk}
 use Rattle.call_ending.specs.Ended.{Last}
-use Rattle.call_ending.proofs.Walking.{instead-yes, instead-not, last_none, before-high}
+use Rattle.call_ending.proofs.Walking.{instead-yes, instead-not, last_none, before_high}
 use Rattle.layout.proofs.Joining.{empty, head-none, head-some}
 use Rattle.call_ending.proofs.ObjectEnded.{Before, object-ended}
 use Rattle.call_ending.proofs.CapEnded.{cap-ended}
@@ -72,7 +72,7 @@ unfolding before is_before
 before_of l o = record {
   none = λ z i a b e. find-some 64 (is_before l o) i a b (eq-eqb _ _ e) z;
   low = λ nz. omega arith;
-  high = before-high l o;
+  high = before_high l o;
   some = λ nz. eqb-true _ _ (find-finds 64 (is_before l o) nz).0;
 }
 

@@ -31,7 +31,7 @@ use Rattle.call_blocks.proofs.Hops.{hop-in}
 use Rattle.call_ending.specs.Links.{last_block, ended_links}
 use Rattle.call_ending.specs.Forfeit.{forfeited, ended_words}
 use Rattle.call_ending.specs.Ended.{Last}
-use Rattle.call_ending.proofs.Walking.{last_none, last-high}
+use Rattle.call_ending.proofs.Walking.{last_none, last_high}
 use Rattle.call_ending.proofs.BlocksEnded.{not_there}
 use Rattle.call_ending.proofs.Rows.{EndedRows, ended-rows}
 use Rattle.call_ending.proofs.EndedShape.{alive, object-slot, cap-slot, blocks-ask, gone, others, owner-gone, owners}
@@ -159,7 +159,7 @@ module _ {b l w : List ℕ} {o m : ℕ} (L : Last b l w o m) (l' w' : List ℕ) 
 
 module _ {b l w : List ℕ} {o m : ℕ} (L : Last b l w o m) where
   pub rows : EndedRows l (ended_links l o m) o m
-  rows = ended-rows l L.sized.links o m (object-slot L) (cap-slot L) (last-high (blocks-ask L))
+  rows = ended-rows l L.sized.links o m (object-slot L) (cap-slot L) (last_high (blocks-ask L))
 
   pub ended-view : view b (ended_links l o m) (ended_words b w o m)
       ≡ to_house (end_object (end_where (view b l w) (λ i. eqb i m)) o) (forfeited b w o m)

@@ -14,7 +14,7 @@ use Rattle.call_steps.specs.Tests.{ObjectSlot, CapSlot}
 use Rattle.call_prune.specs.Links.{freed_cap}
 use Rattle.call_ending.specs.Links.{instead, last_block, given_blocks, is_before, before, unlinked}
 use Rattle.call_ending.specs.Links.{freed_object, ended_links}
-use Rattle.call_ending.proofs.Walking.{before-high}
+use Rattle.call_ending.proofs.Walking.{before_high}
 
 -- the object before o, by the row of next objects
 before_same : (l l' : List ℕ) (o : ℕ) → next_object_of l' ≡ next_object_of l → before l' o ≡ before l o
@@ -74,13 +74,13 @@ module _ (l : List ℕ) (long : length l ≡ Layout.LINKS) (o m : ℕ) (os : Obj
   in₁ = omega (arith, last)
 
   in₂ : Within ws₂
-  in₂ = omega (arith, last, before-high l o)
+  in₂ = omega (arith, last, before_high l o)
 
   in₃ : Within ws₃
-  in₃ = omega (arith, last, before-high l o, os.high)
+  in₃ = omega (arith, last, before_high l o, os.high)
 
   inside : Within ws
-  inside = omega (arith, last, before-high l o, os.high, ms.high)
+  inside = omega (arith, last, before_high l o, os.high, ms.high)
 
   given-puts : given_blocks l o ≡ puts ws₁ l
   unfolding given_blocks

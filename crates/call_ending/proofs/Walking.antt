@@ -1,24 +1,23 @@
 -- The definitions of what an object's end leaves, as the code comes to them: the last block, and the cells of the rows.
-use Prim.Native.Nat.{ℕ, ◌+◌, ◌-◌, ◌*◌, ◌≤◌}
+use Prim.Native.Nat.{ℕ, ◌+◌, ◌-◌, ◌*◌, ◌≤◌, ◌<◌}
 use mathlib.Core.Path.{◌≡◌, refl, sym, ◌∙◌}
 use mathlib.Core.Logic.{◌≢◌}
-use mathlib.Core.Bool.{true, false}
 use mathlib.Core.List.{List}
 use native.Mathlib.Omega.{arith}
 use lib.Dec.{eqb}
-use lib.ListN.{get_or, set}
+use lib.ListN.{length, get_or, set, take, drop, length-take, length-drop}
+use Rattle.std.proofs.lemmas.List.{get_or-take, get_or-drop}
 use borrow.Author.Tests.{eq-eqb, ne_eqb}
-use Rattle.rules.specs.Slots.{find}
 use Rattle.rules.specs.Store.{blocks}
 use Rattle.rules.proofs.Tests.{by-eq, pick_yes, pick-not}
 use Rattle.layout.specs.Layout as Layout
-use Rattle.layout.specs.Rows.{flag_of, count_of, cash_of, size_of, first_block_of, next_block_of}
+use Rattle.layout.specs.Rows.{flag_of, count_of, cash_of, size_of, first_block_of, next_block_of, next_object_of}
 use Rattle.layout.specs.View.{is_set}
 use Rattle.layout.specs.Sums.{sums_from}
 use Rattle.layout.proofs.Field.{field_in}
 use Rattle.layout.proofs.Shown.{set-yes, set-no}
 use Rattle.call_steps.specs.Tests.{ObjectSlot}
-use Rattle.call_steps.proofs.Finding.{find-le}
+use Rattle.call_steps.proofs.Finding.{find-le, find-passed, find-end, find-this}
 use Rattle.call_blocks.specs.Walk.{hop, Blocked}
 use Rattle.call_blocks.proofs.Hops.{hop-block}
 use Rattle.call_prune.specs.Links.{freed_cap}
@@ -30,23 +29,24 @@ use Rattle.layout.proofs.Joining.{head-none}
 
 -- ---- holdings
 
-module _ (b w : List ℕ) {o : ℕ} (s : ObjectSlot o) where
+module _ (b w : List ℕ) {o : ℕ} (at : ObjectSlot o) where
   pub flag_cell : flag_of b o ≡ get_or b (Layout.FLAG + o) 0
-  flag_cell = field_in 64 Layout.FLAG b o s.low s.high
+  flag_cell = field_in 64 Layout.FLAG b o at.low at.high
 
   pub count-cell : count_of b o ≡ get_or b (Layout.COUNT + o) 0
-  count-cell = field_in 64 Layout.COUNT b o s.low s.high
+  count-cell = field_in 64 Layout.COUNT b o at.low at.high
 
   pub holds-none : get_or b (Layout.FLAG + o) 0 ≡ 0 → 0 ≡ holdings b w o
   unfolding holdings
   holds-none z = sym (pick-not (is_set (flag_of b o)) _ 0 (set-no (flag_of b o) (flag_cell ∙ z)))
 
-  pub holds-some : get_or b (Layout.FLAG + o) 0 ≢ 0
-      → get_or w (Layout.CASH + o) 0 + sums_from w (get_or b (Layout.COUNT + o) 0) (o * 4) ≡ holdings b w o
+  -- n messages whose sums are s
+  pub holds-some : {n s : ℕ} → get_or b (Layout.FLAG + o) 0 ≢ 0 → n ≡ get_or b (Layout.COUNT + o) 0
+      → s ≡ sums_from w n (o * 4) → get_or w (Layout.CASH + o) 0 + s ≡ holdings b w o
   unfolding holdings
-  holds-some nz =
-      let cash : get_or w (Layout.CASH + o) 0 ≡ cash_of w o = sym (field_in 64 Layout.CASH w o s.low s.high) in
-      rw (cash, ← count-cell)
+  holds-some nz e f =
+      let cash : get_or w (Layout.CASH + o) 0 ≡ cash_of w o = sym (field_in 64 Layout.CASH w o at.low at.high) in
+      rw (f, e, cash, ← count-cell)
       (sym (pick_yes (is_set (flag_of b o)) _ 0 (set-yes (flag_of b o) (λ z. nz (sym flag_cell ∙ z)))))
 
 -- the count, and that the sum fits
@@ -55,9 +55,9 @@ module _ {b w : List ℕ} {o : ℕ} (a : HoldsAsk b w o) (nz : get_or b (Layout.
   count_low =
       omega (arith, a.count (λ z. nz (sym (flag_cell b w a.slot) ∙ z)), count-cell b w a.slot)
 
-  pub holds-fit : {s : ℕ} → s ≡ sums_from w (get_or b (Layout.COUNT + o) 0) (o * 4)
-      → get_or w (Layout.CASH + o) 0 + s ≤ 4294967295
-  holds-fit e = omega (arith, e, holds-some b w a.slot nz, a.fits)
+  pub holds-fit : {n x : ℕ} → n ≡ get_or b (Layout.COUNT + o) 0 → x ≡ sums_from w n (o * 4)
+      → get_or w (Layout.CASH + o) 0 + x ≤ 4294967295
+  holds-fit e f = omega (arith, holds-some b w a.slot nz e f, a.fits)
 
 module _ {b w : List ℕ} {o m : ℕ} (a : ForfeitAsks b w o m) where
   pub forfeit-is : {x : ℕ} → x ≡ holdings b w o → get_or w (Layout.MONEY + m) 0 + x ≡ forfeited b w o m
@@ -102,9 +102,9 @@ module _ {l : List ℕ} {o : ℕ} (a : BlocksAsk l o) where
   unfolding last_block hop
   last_none z = rw z (head-none 512 (next_block_of l) (first_block_of l o) a.chain.0 a.chain.1 (a.chain.2 ∙ z))
 
-  pub last-high : last_block l o ≤ 512
+  pub last_high : last_block l o ≤ 512
   unfolding last_block
-  last-high = by-eq (blocks (size_of l o)) 0
+  last_high = by-eq (blocks (size_of l o)) 0
       (λ z. omega (arith, last_none z))
       (λ nz. (hop-block (next_block_of l) (first_block_of l o) a.chain.0 a.chain.1 (blocks (size_of l o) - 1)
       (omega (arith, a.chain.2))).1)
@@ -134,23 +134,26 @@ module _ {l : List ℕ} {o : ℕ} (a : BlocksAsk l o) where
 
 -- ---- the object before
 
-pub before-high : (l : List ℕ) (o : ℕ) → before l o ≤ 64
+pub before_high : (l : List ℕ) (o : ℕ) → before l o ≤ 64
 unfolding before
-before-high l o = find-le (is_before l o) 64
+before_high l o = find-le (is_before l o) 64
 
-pub before-is : (l : List ℕ) (o : ℕ) → find 64 (is_before l o) ≡ before l o
-unfolding before
-before-is l o = refl
-
-module _ (l : List ℕ) (o : ℕ) {i x : ℕ} (low : 1 ≤ i) (high : i ≤ 64)
-    (e : x ≡ get_or l (Layout.NEXT_OBJECT + i) 0) where
-  pub before-yes : x ≡ o → is_before l o i ≡ true
-  unfolding is_before
-  before-yes q = eq-eqb _ _ (field_in 64 Layout.NEXT_OBJECT l i low high ∙ sym e ∙ q)
-
-  pub before-not : x ≢ o → is_before l o i ≡ false
-  unfolding is_before
-  before-not ne = ne_eqb _ _ (λ q. ne (e ∙ sym (field_in 64 Layout.NEXT_OBJECT l i low high) ∙ q))
+-- the objects' row of links is o's only up to place r, where o stands unless r is 0
+pub before-found : (l : List ℕ) (o r : ℕ) → length l ≡ Layout.LINKS → let row : List ℕ = take 65 (drop Layout.NEXT_OBJECT l) in
+    r < length row → (r ≢ 0 → get_or row r 0 ≡ o) → ((k : ℕ) → r < k → k < length row → get_or row k 0 ≢ o) → r ≡ before l o
+unfolding before is_before
+before-found l o r size inside stands behind =
+    let row : List ℕ = take 65 (drop Layout.NEXT_OBJECT l) in
+    let n : length row ≡ 65 = omega (arith, length-take 65 (drop Layout.NEXT_OBJECT l), length-drop Layout.NEXT_OBJECT l, size) in
+    let high : r ≤ 64 = omega (arith, inside, n) in
+    let cell : (k : ℕ) → 1 ≤ k → k ≤ 64 → get_or row k 0 ≡ next_object_of l k =
+    λ k a b. get_or-take 65 (drop Layout.NEXT_OBJECT l) k 0 (omega arith)
+    ∙ get_or-drop Layout.NEXT_OBJECT l k 0 ∙ sym (field_in 64 Layout.NEXT_OBJECT l k a b) in
+    sym (find-passed (is_before l o) 64 r high
+    (λ k a b. ne_eqb _ _ (λ q. behind k a (omega (arith, n)) (cell k (omega arith) b ∙ q)))
+    ∙ by-eq r 0
+    (λ z. find-end (is_before l o) r z ∙ sym z)
+    (λ nz. find-this (is_before l o) r (omega arith) (eq-eqb _ _ (sym (cell r (omega arith) high) ∙ stands nz))))
 
 pub unlinked-is : {l : List ℕ} {o i head : ℕ} → ObjectAsks l o → i ≡ before l o
     → head ≡ instead (get_or l Layout.OBJECTS 0) o (get_or l (Layout.NEXT_OBJECT + o) 0)

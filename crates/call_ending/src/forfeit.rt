@@ -16,7 +16,8 @@ fn holdings(bytes: &[u8], words: &[u32], o: usize) -> Cash
     if bytes[FLAG + o] == 0 {
         return Cash(0);
     }
-    let sums = sums_from(words, bytes[COUNT + o] as usize, o * BOX_SLOTS);
+    let sums = sums_from(words, usize::from(bytes[COUNT + o]), o * BOX_SLOTS);
+    // kept: `as` in holdings, where TryFrom would be a failure that HoldsAsk rules out
     Cash(words[CASH + o] + sums as u32)
 }
 
@@ -36,5 +37,5 @@ pub(crate) fn to_house(bytes: &[u8], words: &mut [u32], o: usize, m: usize)
     ensures { words.new ≡ ended_words bytes.now words.old o m }
 {
     let sum = forfeit(bytes, words, o, m);
-    words[HOUSE] = words[HOUSE] + sum.0;
+    words[HOUSE] += sum.0;
 }

@@ -2,6 +2,7 @@
 ghost use Rattle.std.specs.Prelude.{◌≡◌};
 ghost use Rattle.call_ending.specs.Links.{freed_object, ObjectAsks};
 
+use call_prune::free::free_record;
 use layout::{FREE_OBJECTS, MASTER, NEXT_OBJECT};
 
 // The one in slot o, which has no master then.
@@ -9,8 +10,5 @@ pub(crate) fn free_object(links: &mut [u16], o: usize)
     requires { ObjectAsks links.old o }
     ensures { links.new ≡ freed_object links.old o }
 {
-    let free = links[FREE_OBJECTS];
-    links[MASTER + o] = 0;
-    links[NEXT_OBJECT + o] = free;
-    links[FREE_OBJECTS] = o as u16;
+    free_record::<MASTER, NEXT_OBJECT, FREE_OBJECTS>(links, o);
 }

@@ -6,7 +6,7 @@ ghost use Rattle.call_grow.specs.Made.{cap_of, new_links, new_words, MakeAsks, M
 
 use layout::{
     END, FIRST_CHILD, FREE_CAPS, LAST_DAY, MONEY, NEXT_CAP, OWNER, P1, P2, PARENT, PREV_CAP,
-    RIGHTS, START, slot,
+    RIGHTS, START,
 };
 use values::moneyword::Moneyword;
 use values::rights::Rights;
@@ -27,8 +27,8 @@ pub struct NewCap {
 
 // The links of the record in slot i, the first free one.
 fn write_links(links: &mut [u16], i: usize, x: NewCap)
-    requires fact_1 { length links.old ≡ Layout.LINKS }
-    requires fact_2 { CapSlot i }
+    requires sized { length links.old ≡ Layout.LINKS }
+    requires slot { CapSlot i }
     ensures { links.new ≡ new_links links.old i (cap_of x) x.next }
 {
     links[FREE_CAPS] = links[NEXT_CAP + i];
@@ -43,8 +43,8 @@ fn write_links(links: &mut [u16], i: usize, x: NewCap)
 
 // Its words.
 fn write_words(words: &mut [u32], i: usize, x: NewCap, moneyword: Moneyword)
-    requires fact_1 { length words.old ≡ Layout.WORDS }
-    requires fact_2 { CapSlot i }
+    requires sized { length words.old ≡ Layout.WORDS }
+    requires slot { CapSlot i }
     ensures { words.new ≡ new_words words.old i (cap_of x) moneyword.0 }
 {
     let password = x.password;
@@ -62,7 +62,7 @@ pub fn new_cap(links: &mut [u16], words: &mut [u32], x: NewCap, moneyword: Money
     ensures { Makes links.old words.old (cap_of x) x.next moneyword.0 result
         links.new words.new }
 {
-    let i = slot(links[FREE_CAPS]);
+    let i = usize::from(links[FREE_CAPS]);
     write_links(links, i, x);
     write_words(words, i, x, moneyword);
     i

@@ -1,13 +1,17 @@
--- Cells copied: what stands in them after it, what does not change, and the loop that counts up.
-use Prim.Native.Nat.{ℕ, suc, ◌+◌, ◌≤◌, ◌<◌}
-use mathlib.Core.Path.{◌≡◌, refl, sym, ap, ◌∙◌, fun_ext}
+-- Cells copied: what stands in them after it, what does not change, and the library's copy inside a part of a slice.
+use Prim.Native.Nat.{ℕ, ◌+◌, ◌-◌, ◌≤◌, ◌<◌}
+use mathlib.Core.Path.{◌≡◌, sym, ap, ◌∙◌, fun_ext}
 use mathlib.Core.Logic.{◌≢◌}
-use mathlib.Core.List.{List}
+use mathlib.Core.List.{List, ◌++◌, append_assoc}
 use native.Mathlib.Omega.{arith}
-use lib.ListN.{length, get_or, set, length-set}
+use lib.ListN.{length, get_or, take, drop, length-drop}
+use lib.Seq.{paste, drop-drop, length-take-le}
+use borrow.Rule.Slice.PartMut.{put_mid}
+use Rattle.std.proofs.lemmas.List.{drop-take, take-take, drop-append-le, take-append-drop}
 use Rattle.layout.specs.Rows.{field, region}
 use Rattle.layout.proofs.Field.{within, field_in, field_out, region-cells}
-use Rattle.call_steps.specs.Copies.{laid, copied, Copied}
+use Rattle.call_steps.specs.Copies.{copied, Copied}
+use Rattle.call_steps.proofs.Copying.{part-copied}
 use Rattle.call_steps.proofs.Laid.{laid-length, laid-other, laid-at}
 
 module _ (src : List ℕ) (from : ℕ) (dst : List ℕ) (to : ℕ) where
@@ -60,35 +64,40 @@ pub copied-length : {n : ℕ} {src : List ℕ} {from : ℕ} {dst : List ℕ} {to
     → Copied n src from dst to dst' → length dst' ≡ length dst
 copied-length {n} {src} {from} {dst} {to} c = ap length c.is ∙ length-copied src from dst to n
 
--- ---- the loop: i of n are copied
+-- ---- the library's copy inside a part of a slice, down to the part's front
 
-pub record Copying (src : List ℕ) (from : ℕ) (dst₀ : List ℕ) (to n : ℕ) (dst : List ℕ) (i : ℕ) : Type 0 where
-  pub done : dst ≡ copied i src from dst₀ to
-  pub size : length dst ≡ length dst₀
-  pub reached : i ≤ n
+-- of a part T of by + n cells, the last n
+module _ (T : List ℕ) (by n : ℕ) where
+  pasted : paste T 0 (drop by T) n ≡ take n (drop by T) ++ drop n T
+  pasted =
+      let e : 0 + n ≡ n = omega arith in
+      ap (λ m. take n (drop by T) ++ drop m T) e
 
-pub copying-none : (src : List ℕ) (from : ℕ) (dst : List ℕ) (to n : ℕ) → Copying src from dst to n dst 0
-unfolding copied laid
-copying-none src from dst to n = record { done = refl; size = refl; reached = omega arith }
-
-module _ {src : List ℕ} {from : ℕ} {dst₀ : List ℕ} {to n : ℕ} {dst : List ℕ} {i : ℕ}
-    (C : Copying src from dst₀ to n dst i) where
-  pub copying-more : i < n → (v : ℕ) → v ≡ get_or src (from + i) 0
-      → Copying src from dst₀ to n (set dst (to + i) v) (i + 1)
-  unfolding copied laid
-  copying-more h v e =
-      let up : suc i ≡ i + 1 = omega arith in
-      record {
-        done = (λ k. set (C.done k) (to + i) (e k)) ∙ ap (λ k. copied k src from dst₀ to) up;
-        size = length-set dst (to + i) v ∙ C.size;
-        reached = omega arith;
-      }
-
-  -- in the same list, a cell of those still to come is as it was
-  pub ahead : (j : ℕ) → to + i ≤ j → get_or dst j 0 ≡ get_or dst₀ j 0
-  ahead j h = ap (λ d. get_or d j 0) C.done ∙ copied-out src from dst₀ to i j (λ m p. omega arith)
-
-  pub copying-all : n ≤ i → Copied n src from dst₀ to dst
-  copying-all h =
-      let e : i ≡ n = omega (arith, C.reached) in
-      record { is = C.done ∙ ap (λ k. copied k src from dst₀ to) e }
+-- the part is that from `at` to `end`
+pub part-moved : (l part : List ℕ) (at end by top n : ℕ) → end ≡ at + (by + n) → top ≡ by + n → end ≤ length l
+    → part ≡ paste (take (end - at) (drop at l)) 0 (drop by (take (end - at) (drop at l))) (top - by)
+    → Copied n l (at + by) l at (put_mid at (end - at) l part)
+part-moved l part at end by top n e t fits p =
+    let X : List ℕ = drop at l in
+    let T : List ℕ = take (by + n) X in
+    let back : List ℕ = take n (drop by X) in
+    let size : end - at ≡ by + n = omega arith in
+    let count : top - by ≡ n = omega arith in
+    let room : by + n ≤ length X = omega (arith, length-drop at l) in
+    let long : length T ≡ by + n = length-take-le (by + n) X room in
+    let source : take n (drop by T) ≡ back = ap (take n) (drop-take by n X) ∙ take-take n n (drop by X) (omega arith) in
+    let rest : drop n T ++ drop (by + n) X ≡ drop n X =
+    sym (drop-append-le n T (drop (by + n) X) (omega arith)) ∙ ap (drop n) (take-append-drop (by + n) X) in
+    let is : part ≡ back ++ drop n T =
+    p ∙ (λ d. paste (take (size d) X) 0 (drop by (take (size d) X)) (count d)) ∙ pasted T by n
+    ∙ ap (λ x. x ++ drop n T) source in
+    let q : n ≡ at + n - at = omega arith in
+    let r : n ≡ at + by + n - (at + by) = omega arith in
+    let c = part-copied l l back (at + by) at n (omega arith) (omega arith)
+    (ap (take n) (drop-drop by at l) ∙ ap (λ m. take m (drop (at + by) l)) r) in
+    record {
+      is = (λ d. take at l ++ (is d ++ drop (size d) X))
+          ∙ ap (λ x. take at l ++ x) (append_assoc back (drop n T) (drop (by + n) X))
+          ∙ ap (λ x. take at l ++ (back ++ x)) (rest ∙ ap (λ m. drop m X) q)
+          ∙ c.is;
+    }

@@ -11,7 +11,7 @@ use Rattle.rules.specs.Refusals.{◌when◌, first}
 use Rattle.layout.specs.Layout as Layout
 use Rattle.layout.specs.Rows.{count_of, length_of, text_in, cash_of, sum_of}
 use Rattle.layout.proofs.Field.{field_in}
-use Rattle.call_steps.specs.declared.request.Reply.{Reply}
+use Rattle.call_steps.specs.Request.{Reply}
 use Rattle.call_steps.specs.Run.{over, handed_over, overlay}
 use Rattle.call_steps.specs.Replies.{HandsOver, Fills}
 use Rattle.call_steps.proofs.Meeting.{stopped, goes_on}

@@ -3,5 +3,4 @@
 #![tactic(auto)]
 
 pub mod from_box;
-mod shift;
 pub mod to_box;

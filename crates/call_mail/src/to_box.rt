@@ -4,13 +4,13 @@ ghost use Rattle.call_steps.specs.Replies.{Replies};
 ghost use Rattle.call_mail.specs.Runs.{PlaceAsks, SendAsks, MessagePlaced, send_run};
 
 use call_steps::copy::copy;
-use call_steps::request::Reply;
+use call_steps::request::{Given, Reply};
 use call_steps::target::target;
 use layout::process::is_process;
 use layout::{CASH, COUNT, LENGTH, SUM, TEXT, WAITING};
 use values::cash::Cash;
-use values::code::{BOX_FULL, NOT_PROCESS, TOO_LITTLE};
 use values::limit::{BOX_SLOTS, MAX_MESSAGE, MAX_MESSAGES};
+use values::refusal::Refusal;
 
 // The message in slot i: its text, its length and its sum.
 fn place(bytes: &mut [u8], words: &mut [u32], text: &[u8], i: usize, sum: u32)
@@ -38,20 +38,20 @@ pub fn send(
         (send_run bytes.old links.now words.old text.now me k sum) }
 {
     let o = target(links, k);
-    if is_process(bytes, links, o) {
-        if Cash(words[CASH + me]).below(sum) {
-            return Reply::refused(TOO_LITTLE);
-        }
-        let count = bytes[COUNT + o];
-        if MAX_MESSAGES <= count {
-            return Reply::refused(BOX_FULL);
-        }
-        let left = Cash(words[CASH + me]).less(sum);
-        words[CASH + me] = left.0;
-        place(bytes, words, text, o * BOX_SLOTS + count as usize, sum);
-        bytes[COUNT + o] = count + 1;
-        bytes[WAITING + o] = 0;
-        return Reply::done();
+    if !is_process(bytes, links, o) {
+        return Err(Refusal::NotProcess);
     }
-    Reply::refused(NOT_PROCESS)
+    if Cash(words[CASH + me]).below(sum) {
+        return Err(Refusal::TooLittle);
+    }
+    let count = bytes[COUNT + o];
+    if MAX_MESSAGES <= count {
+        return Err(Refusal::BoxFull);
+    }
+    let left = Cash(words[CASH + me]).less(sum);
+    words[CASH + me] = left.0;
+    place(bytes, words, text, o * BOX_SLOTS + usize::from(count), sum);
+    bytes[COUNT + o] = count + 1;
+    bytes[WAITING + o] = 0;
+    Ok(Given::done())
 }

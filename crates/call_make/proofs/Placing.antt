@@ -1,8 +1,9 @@
 -- The steps of the code, put together: the blocks, the record and the master of a new object, and the reply.
-use Prim.Native.Nat.{ℕ}
-use mathlib.Core.Path.{◌≡◌, sym, ap, ◌∙◌, subst}
+use Prim.Native.Nat.{ℕ, zero, suc}
+use Rattle.std.specs.Prelude.{is_some}
+use mathlib.Core.Path.{◌≡◌, refl, sym, ap, ◌∙◌, subst}
 use mathlib.Core.Logic.{◌≢◌}
-use mathlib.Core.Bool.{true, false}
+use mathlib.Core.Bool.{true, false, false≢true, true≢false}
 use mathlib.Core.List.{List}
 use native.Mathlib.Omega.{arith}
 use lib.ListN.{length}
@@ -12,7 +13,8 @@ use Rattle.rules.specs.Call.{hands_back}
 use Rattle.layout.specs.View.{view}
 use Rattle.call_steps.specs.Refuses.{Refuses}
 use Rattle.call_steps.specs.Replies.{Gives, Replies}
-use Rattle.call_steps.specs.declared.request.Reply.{Reply}
+use Rattle.call_steps.specs.Request.{Reply}
+use Rattle.call_steps.specs.Tests.{slot_found}
 use Rattle.call_steps.proofs.Replying.{replies-stopped, replies-done}
 use Rattle.call_blocks.specs.Taking.{cleared_bytes, taken_links, Enough}
 use Rattle.call_blocks.proofs.Taken.{enough-of}
@@ -24,6 +26,16 @@ use Rattle.call_make.specs.Runs.{made_links, made_words, made, make_run, HoldAsk
 use Rattle.call_make.specs.Runs.{PlaceAsks, Places, MakeAsks}
 use Rattle.call_make.proofs.Rows.{words_long, recorded}
 use Rattle.call_make.proofs.Stops.{space-is, stop-name, stop-space, stop-none}
+
+-- ---- the name
+
+pub some-named : (n : ℕ) → is_some (slot_found n) ≡ true → n ≢ 0
+some-named zero e = absurd (false≢true e)
+some-named (suc n) e = omega arith
+
+pub none-named : (n : ℕ) → is_some (slot_found n) ≡ false → n ≡ 0
+none-named zero e = refl
+none-named (suc n) e = absurd (true≢false e)
 
 -- ---- the blocks
 

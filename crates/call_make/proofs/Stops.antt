@@ -2,7 +2,7 @@
 use Prim.Native.Nat.{ℕ, ◌+◌}
 use mathlib.Core.Path.{◌≡◌}
 use mathlib.Core.Logic.{◌≢◌}
-use mathlib.Core.Bool.{Bool, true, false, ◌||◌}
+use mathlib.Core.Bool.{true, false, ◌||◌}
 use mathlib.Core.List.{List}
 use lib.Dec.{eqb}
 use lib.ListN.{get_or, set}
@@ -20,18 +20,6 @@ use Rattle.call_grow.specs.Made.{free_cap}
 use Rattle.call_make.specs.Runs.{free_object, no_space, make_stop, record_links}
 
 module _ (l : List ℕ) (n : ℕ) where
-  pub space-object : free_object l ≡ 0 → true ≡ no_space l n
-  unfolding no_space
-  space-object z = rw (eq-eqb (free_object l) 0 z)
-
-  pub space-cap : free_object l ≢ 0 → free_cap l ≡ 0 → true ≡ no_space l n
-  unfolding no_space
-  space-cap a z = rw (ne_eqb (free_object l) 0 a, eq-eqb (free_cap l) 0 z)
-
-  pub space-blocks : free_object l ≢ 0 → free_cap l ≢ 0 → (r : Bool) → r ≡ too_few l n → r ≡ no_space l n
-  unfolding no_space
-  space-blocks a z r e = rw (ne_eqb (free_object l) 0 a, ne_eqb (free_cap l) 0 z) e
-
   -- there is space
   pub record Space : Type 0 where
     pub object : free_object l ≢ 0

@@ -10,10 +10,10 @@ ghost use Rattle.call_make.specs.Runs.{MakeAsks, make_run};
 use crate::make::place;
 use crate::space::no_space;
 use call_steps::objects::find_object;
-use call_steps::request::{Reply, Request};
-use layout::{FREE_OBJECTS, slot};
+use call_steps::request::{Given, Reply, Request};
+use layout::FREE_OBJECTS;
 use values::blocks::blocks_of;
-use values::code::{NO_SPACE, TAKEN};
+use values::refusal::Refusal;
 
 mod make;
 mod record;
@@ -28,14 +28,14 @@ pub fn make_obj(bytes: &mut [u8], links: &mut [u16], words: &mut [u32], req: Req
         req.flag req.rights (password_of req.drawn)) }
 {
     let name = req.name;
-    if find_object(bytes, links, name) == 0 {
-        if no_space(links, blocks_of(req.size) as usize) {
-            return Reply::refused(NO_SPACE);
-        }
-        let o = slot(links[FREE_OBJECTS]);
-        place(bytes, links, words, o, req);
-        let drawn = req.drawn;
-        return Reply::hands_back(name, drawn);
+    if find_object(bytes, links, name).is_some() {
+        return Err(Refusal::Taken);
     }
-    Reply::refused(TAKEN)
+    if no_space(links, blocks_of(req.size) as usize) {
+        return Err(Refusal::NoSpace);
+    }
+    let o = usize::from(links[FREE_OBJECTS]);
+    place(bytes, links, words, o, req);
+    let drawn = req.drawn;
+    Ok(Given::hands_back(name, drawn))
 }

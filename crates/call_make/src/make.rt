@@ -9,7 +9,7 @@ use crate::record::{record_bytes, record_links, record_words};
 use call_blocks::clear::clear;
 use call_blocks::take::take;
 use call_grow::cap::{NewCap, new_cap};
-use call_steps::request::{Name, Request};
+use call_steps::request::Request;
 use layout::FREE_CAPS;
 use values::blocks::blocks_of;
 use values::limit::MAX_DAY;
@@ -20,19 +20,21 @@ use values::window::Window;
 const MASTERS_LAST_DAY: u16 = MAX_DAY as u16;
 
 // The master of the object in slot o.
-fn master_of(o: usize, size: u32, rights: u32, drawn: [u32; 2]) -> NewCap
-    requires { MasterAsks o rights }
-    ensures { IsNewMaster o size rights (password_of drawn) result }
+fn master_of(o: usize, req: Request) -> NewCap
+    requires { MasterAsks o req.rights }
+    ensures { IsNewMaster o req.size req.rights (password_of req.drawn) result }
 {
+    let drawn = req.drawn;
+    // kept: `as` in master_of and record, where TryFrom would be a failure that MasterAsks and RecordAsks rule out
     NewCap {
         object: o as u16,
         parent: 0,
         next: 0,
-        rights: Rights(rights as u16),
+        rights: Rights(req.rights as u16),
         password: drawn,
         window: Window {
             start: 0,
-            end: size,
+            end: req.size,
         },
         last_day: MASTERS_LAST_DAY,
     }
@@ -54,17 +56,16 @@ fn record(
     links: &mut [u16],
     words: &mut [u32],
     o: usize,
-    name: Name,
-    size: u32,
-    flag: u32,
+    req: Request,
     master: u16,
 )
-    requires { RecordAsks bytes.old links.old words.old o (name_of name) size flag }
-    ensures { Records bytes.old links.old words.old o (name_of name) size flag
-        master bytes.new links.new words.new }
+    requires { RecordAsks bytes.old links.old words.old o (name_of req.name) req.size req.flag }
+    ensures { Records bytes.old links.old words.old o (name_of req.name) req.size
+        req.flag master bytes.new links.new words.new }
 {
-    record_bytes(bytes, o, name.volume as u8, flag as u8);
-    record_links(links, o, name.serial as u16, size as u16, master);
+    let name = req.name;
+    record_bytes(bytes, o, name.volume as u8, req.flag as u8);
+    record_links(links, o, name.serial as u16, req.size as u16, master);
     record_words(words, o);
 }
 
@@ -78,9 +79,6 @@ pub(crate) fn place(bytes: &mut [u8], links: &mut [u16], words: &mut [u32], o: u
 {
     let free = links[FREE_CAPS];
     hold(bytes, links, o, req.size);
-    let name = req.name;
-    record(bytes, links, words, o, name, req.size, req.flag, free);
-    let drawn = req.drawn;
-    let master = master_of(o, req.size, req.rights, drawn);
-    new_cap(links, words, master, Moneyword(0));
+    record(bytes, links, words, o, req, free);
+    new_cap(links, words, master_of(o, req), Moneyword(0));
 }

@@ -11,8 +11,8 @@ use layout::{
 };
 
 pub(crate) fn record_bytes(bytes: &mut [u8], o: usize, volume: u8, flag: u8)
-    requires fact_1 { length bytes.old ≡ Layout.BYTES }
-    requires fact_2 { ObjectSlot o }
+    requires sized { length bytes.old ≡ Layout.BYTES }
+    requires slot { ObjectSlot o }
     ensures { bytes.new ≡ record_bytes bytes.old o volume flag }
 {
     bytes[VOLUME + o] = volume;
@@ -25,8 +25,8 @@ pub(crate) fn record_bytes(bytes: &mut [u8], o: usize, volume: u8, flag: u8)
 
 // The slot leaves the chain of free objects for that of objects; its master is to be in slot `master`.
 pub(crate) fn record_links(links: &mut [u16], o: usize, serial: u16, size: u16, master: u16)
-    requires fact_1 { length links.old ≡ Layout.LINKS }
-    requires fact_2 { ObjectSlot o }
+    requires sized { length links.old ≡ Layout.LINKS }
+    requires slot { ObjectSlot o }
     ensures { links.new ≡ record_links links.old o serial size master }
 {
     let next = links[NEXT_OBJECT + o];
@@ -40,8 +40,8 @@ pub(crate) fn record_links(links: &mut [u16], o: usize, serial: u16, size: u16, 
 }
 
 pub(crate) fn record_words(words: &mut [u32], o: usize)
-    requires fact_1 { length words.old ≡ Layout.WORDS }
-    requires fact_2 { ObjectSlot o }
+    requires sized { length words.old ≡ Layout.WORDS }
+    requires slot { ObjectSlot o }
     ensures { words.new ≡ record_words words.old o }
 {
     words[CASH + o] = 0;

@@ -7,15 +7,10 @@ use call_blocks::chain::too_few;
 use layout::{FREE_CAPS, FREE_OBJECTS};
 
 // No free record, or fewer than n free blocks.
+#[tactic(auto, unfolding(crate::specs::Runs::no_space))]
 pub(crate) fn no_space(links: &[u16], n: usize) -> bool
     requires { FreeChain links.now }
     ensures { result ≡ no_space links.now n }
 {
-    if links[FREE_OBJECTS] == 0 {
-        return true;
-    }
-    if links[FREE_CAPS] == 0 {
-        return true;
-    }
-    too_few(links, n)
+    links[FREE_OBJECTS] == 0 || links[FREE_CAPS] == 0 || too_few(links, n)
 }

@@ -1,6 +1,6 @@
 -- A run by what the code found in the cells: which of its refusals stops it, or what it stores.
 use Prim.Native.Nat.{ℕ, ◌+◌, ◌-◌, ◌≤◌}
-use mathlib.Core.Path.{◌≡◌, sym, ◌∙◌}
+use mathlib.Core.Path.{◌≡◌, sym, ap, ◌∙◌}
 use mathlib.Core.Logic.{◌≢◌}
 use mathlib.Core.Bool.{Bool, true, false, not, ◌||◌}
 use mathlib.Core.List.{List, [], ◌∷◌}
@@ -11,12 +11,16 @@ use borrow.Author.Tests.{ltb-false}
 use Rattle.rules.specs.Code as Code
 use Rattle.rules.specs.Limit as Limit
 use Rattle.rules.specs.Refusals.{◌when◌, first}
+use Rattle.rules.proofs.Tests.{by_bool}
 use Rattle.values.specs.Words.{lockword_of, xor_of}
+use Rattle.values.specs.declared.refusal.Refusal.{Refusal}
+use Rattle.values.specs.Refusals.{number_of}
+use Rattle.values.proofs.Numbers.{number-some}
 use Rattle.layout.specs.Layout as Layout
 use Rattle.layout.specs.Rows.{flag_of, owner_of}
 use Rattle.layout.specs.View.{is_set}
 use Rattle.layout.proofs.Field.{field_in}
-use Rattle.layout.proofs.Shown.{is-set}
+use Rattle.layout.proofs.Shown.{is-set, set-yes, set-no}
 use Rattle.call_steps.specs.Run.{over}
 use Rattle.call_steps.proofs.Meeting.{stopped, goes_on}
 use Rattle.call_steps.specs.Tests.{ObjectSlot}
@@ -36,101 +40,109 @@ module _ (b l : List ℕ) (k : ℕ) where
   unfolding revive_stop first ◌when◌
   revive-data w me sum e = rw e
 
--- capability k is for the object in slot o, and p tells whether that has a process's flag
-pub record Found (b l : List ℕ) (k o : ℕ) (p : Bool) : Type 0 where
-  pub target : o ≡ owner_of l k
-  pub process : p ≡ is_set (flag_of b o)
-
-module _ {b l : List ℕ} {k o : ℕ} {p : Bool} (F : Found b l k o p) where
-  flag_is : {t : Bool} → p ≡ t → is_set (flag_of b (owner_of l k)) ≡ t
-  flag_is e = rw F.target at (sym F.process ∙ e)
-
-  pub slot_of : Target l k → ObjectSlot o
-  slot_of T = rw F.target T.slot
-
-  process-unmet : p ≡ true → process_stop b l k ≡ 0
+  process-unmet : is_set (flag_of b (owner_of l k)) ≡ true → process_stop b l k ≡ 0
   unfolding process_stop first ◌when◌
-  process-unmet e = rw (flag_is e)
+  process-unmet e = rw e
 
-  -- ---- suspend, resume
+  -- the other way
+  pub process-set : 0 ≡ process_stop b l k → is_set (flag_of b (owner_of l k)) ≡ true
+  process-set z = by_bool (is_set (flag_of b (owner_of l k))) (λ e. e) (λ e. absurd (omega (arith, process-data e, z)))
 
-  pub suspended-met : p ≡ false → (w : List ℕ) (v : ℕ) → over Code.not_process b l w ≡ suspended_run b l w k v
-  unfolding suspended_run
-  suspended-met e w v = stopped b l w _ Code.not_process (process-data b l k (flag_is e)) (omega arith)
+  process-clear : {n : ℕ} → n ≡ process_stop b l k → n ≢ 0 → is_set (flag_of b (owner_of l k)) ≡ false
+  process-clear q nz = by_bool (is_set (flag_of b (owner_of l k))) (λ e. absurd (nz (q ∙ process-unmet e))) (λ e. e)
 
-  pub suspended-done : p ≡ true → (w : List ℕ) (v : ℕ)
-      → over 0 (set b (Layout.SUSPENDED + o) v) l w ≡ suspended_run b l w k v
-  unfolding suspended_run
-  suspended-done e w v = rw F.target (goes_on b l w _ (process-unmet e))
+  -- as the code reads it
+  module _ {o : ℕ} (q : o ≡ owner_of l k) (T : Target l k) where
+    flag-is : {t : Bool} → is_set (get_or b (Layout.FLAG + o) 0) ≡ t → is_set (flag_of b (owner_of l k)) ≡ t
+    flag-is e = ap is_set (field_in 64 Layout.FLAG b (owner_of l k) T.slot.low T.slot.high) ∙ rw q at e
 
-  -- ---- apply_lock
+    pub no-process : get_or b (Layout.FLAG + o) 0 ≡ 0 → Code.not_process ≡ process_stop b l k
+    no-process z = sym (process-data (flag-is (set-no _ z)))
 
-  module _ (w x : List ℕ) where
-    pub lock-met : p ≡ false → over Code.not_process b l w ≡ lock_run b l w k (lockword_of x)
-    unfolding lock_run
-    lock-met e = stopped b l w _ Code.not_process (process-data b l k (flag_is e)) (omega arith)
+    pub a-process : get_or b (Layout.FLAG + o) 0 ≢ 0 → 0 ≡ process_stop b l k
+    a-process z = sym (process-unmet (flag-is (set-yes _ z)))
 
-    pub lock-done : p ≡ true → Target l k → (y : List ℕ)
+-- ---- suspend, resume, apply_lock
+
+module _ (b l : List ℕ) (k : ℕ) (w : List ℕ) where
+  -- the refusal r of the target is revive's
+  pub revive-refused : (r : Refusal) → number_of r ≡ process_stop b l k → (me sum : ℕ)
+      → revive_stop b l w me k sum ≡ number_of r
+  revive-refused r q me sum =
+      let no = process-clear b l k q (number-some r) in
+      revive-data b l k w me sum no ∙ sym (process-data b l k no) ∙ sym q
+
+  -- none, and the target's slot is o
+  module _ {o : ℕ} (q : o ≡ owner_of l k) (z : 0 ≡ process_stop b l k) where
+    pub suspended-done : (v : ℕ) → over 0 (set b (Layout.SUSPENDED + o) v) l w ≡ suspended_run b l w k v
+    unfolding suspended_run
+    suspended-done v = rw q (goes_on b l w _ (sym z))
+
+    pub lock-done : (x : List ℕ) → Target l k → (y : List ℕ)
         → y ≡ xor_of (get_or w (Layout.LOCK1 + o) 0 ∷ get_or w (Layout.LOCK2 + o) 0 ∷ []) x
         → over 0 b l (set (set w (Layout.LOCK1 + o) (get_or y 0 0)) (Layout.LOCK2 + o) (get_or y 1 0))
         ≡ lock_run b l w k (lockword_of x)
     unfolding lock_run
-    lock-done e T y q =
-        let s = slot_of T in
+    lock-done x T y e =
+        let s : ObjectSlot o = rw q T.slot in
         rw (
-          q,
+          e,
           ← field_in 64 Layout.LOCK1 w o s.low s.high,
           ← field_in 64 Layout.LOCK2 w o s.low s.high,
-          F.target,
+          q,
         )
-        (goes_on b l w _ (process-unmet e))
+        (goes_on b l w _ (sym z))
 
 -- ---- revive
 
--- what the code of revive goes by
-pub record Reviving (b l w : List ℕ) (me k sum o : ℕ) (p : Bool) : Type 0 where
-  pub found : Found b l k o p
+-- what the code of revive goes by, where the target is a process
+pub record Reviving (b l : List ℕ) (me k o : ℕ) : Type 0 where
+  pub found : o ≡ owner_of l k
+  pub process : 0 ≡ process_stop b l k
   pub target : Target l k
   pub caller : ObjectSlot me
 
-module _ {b l w : List ℕ} {me k sum o : ℕ} {p : Bool} (R : Reviving b l w me k sum o p) where
-  -- with its four tests as they came out, or as they stand
-  revive-stop : {f t z q : Bool} → p ≡ f → is_set (get_or b (Layout.TERMINATED + o) 0) ≡ t → eqb sum 0 ≡ z
+module _ {b l : List ℕ} {me k o : ℕ} (R : Reviving b l me k o) (w : List ℕ) (sum : ℕ) where
+  pub target-slot : ObjectSlot o
+  target-slot = rw R.found R.target.slot
+
+  -- with its three tests as they came out, or as they stand
+  revive-stop : {t z q : Bool} → is_set (get_or b (Layout.TERMINATED + o) 0) ≡ t → eqb sum 0 ≡ z
       → ltb (get_or w (Layout.CASH + me) 0) sum ≡ q
       → revive_stop b l w me k sum
-      ≡ first (Code.not_process when not f ∷ Code.not_revivable when (not t || z) ∷ Code.too_little when q ∷ [])
+      ≡ first (Code.not_process when false ∷ Code.not_revivable when (not t || z) ∷ Code.too_little when q ∷ [])
   unfolding revive_stop
-  revive-stop f t z q =
+  revive-stop t z q =
       let s = R.target.slot in
       let m = R.caller in
       rw (
-        flag_is R.found f,
+        process-set b l k R.process,
         field_in 64 Layout.TERMINATED b (owner_of l k) s.low s.high,
         field_in 64 Layout.CASH w me m.low m.high,
-        ← R.found.target,
+        ← R.found,
         t,
         z,
         q,
       )
 
-  pub revive-met : (n : ℕ) {f t z q : Bool} → p ≡ f → is_set (get_or b (Layout.TERMINATED + o) 0) ≡ t → eqb sum 0 ≡ z
+  pub revive-met : (n : ℕ) {t z q : Bool} → is_set (get_or b (Layout.TERMINATED + o) 0) ≡ t → eqb sum 0 ≡ z
       → ltb (get_or w (Layout.CASH + me) 0) sum ≡ q
-      → first (Code.not_process when not f ∷ Code.not_revivable when (not t || z) ∷ Code.too_little when q ∷ []) ≡ n
+      → first (Code.not_process when false ∷ Code.not_revivable when (not t || z) ∷ Code.too_little when q ∷ []) ≡ n
       → n ≢ 0 → over n b l w ≡ revive_run b l w me k sum
   unfolding revive_run
-  revive-met n f t z q e ne = stopped b l w _ n (revive-stop f t z q ∙ e) ne
+  revive-met n t z q e ne = stopped b l w _ n (revive-stop t z q ∙ e) ne
 
-  pub revive-done : p ≡ true → is_set (get_or b (Layout.TERMINATED + o) 0) ≡ true → eqb sum 0 ≡ false
+  pub revive-done : is_set (get_or b (Layout.TERMINATED + o) 0) ≡ true → eqb sum 0 ≡ false
       → ltb (get_or w (Layout.CASH + me) 0) sum ≡ false
       → over 0 (set b (Layout.TERMINATED + o) 0) l (moved_words w me o sum) ≡ revive_run b l w me k sum
   unfolding revive_run first ◌when◌
-  revive-done f t z q = rw R.found.target (goes_on b l w _ (revive-stop f t z q))
+  revive-done t z q = rw R.found (goes_on b l w _ (revive-stop t z q))
 
-  pub room-is : p ≡ true → ltb (get_or w (Layout.CASH + me) 0) sum ≡ false → Affords b l w me k sum → Room w me o sum
-  room-is f q a =
+  pub room-is : ltb (get_or w (Layout.CASH + me) 0) sum ≡ false → Affords b l w me k sum → Room w me o sum
+  room-is q a =
       let m = R.caller in
       let enough : sum ≤ get_or w (Layout.CASH + me) 0 = ltb-false _ _ q in
-      rw R.found.target (a (is-set (flag_of b (owner_of l k)) (flag_is R.found f))
+      rw R.found (a (is-set (flag_of b (owner_of l k)) (process-set b l k R.process))
       (rw (field_in 64 Layout.CASH w me m.low m.high) enough))
 
 -- the sum is taken, and added to what that left

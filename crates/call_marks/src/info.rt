@@ -3,7 +3,7 @@ ghost use Rattle.std.specs.Prelude.{ℕ, List};
 ghost use Rattle.call_steps.specs.Replies.{Replies};
 ghost use Rattle.call_marks.specs.Runs.{InfoAsks, info_run};
 
-use call_steps::request::Reply;
+use call_steps::request::{Given, Reply};
 use layout::{END, MONEY, START};
 use values::moneyword::Moneyword;
 
@@ -15,5 +15,5 @@ pub fn cap_info(words: &[u32], k: usize) -> Reply
     let start = words[START + k];
     let end = words[END + k];
     let money = words[MONEY + k];
-    Reply::tells(end - start, Moneyword(money))
+    Ok(Given::tells(end - start, Moneyword(money)))
 }

@@ -2,8 +2,8 @@
 // mark, apply_lock changes a lockword, revive pays a terminated process, cap_info tells of a capability.
 #![tactic(auto)]
 
-mod flag;
 pub mod info;
 pub mod lock;
 pub mod mark;
+mod process;
 pub mod terminated;

@@ -1,29 +1,25 @@
 // "suspend, resume: 8 not a process. Sets or clears the mark." "wait: no more."
 // "With an empty box it sets the mark."
 ghost use Rattle.std.specs.Prelude.{ℕ, ◌≡◌, List, length};
+ghost use Rattle.std.specs.Int.{from_bool};
 ghost use Rattle.layout.specs.Layout as Layout;
 ghost use Rattle.call_steps.specs.Tests.{ObjectSlot};
 ghost use Rattle.call_steps.specs.Replies.{Replies};
 ghost use Rattle.call_marks.specs.Runs.{MarkAsks, suspended_run, wait_run};
 
-use crate::flag::has_flag;
-use call_steps::request::Reply;
-use call_steps::target::target;
+use crate::process::process_of;
+use call_steps::request::{Given, Reply};
 use layout::{COUNT, SUSPENDED, WAITING};
-use values::code::NOT_PROCESS;
 
-// The suspended mark of the object that capability k is for, 1 set or 0 clear.
-fn set_suspended(bytes: &mut [u8], links: &[u16], k: usize, mark: u8) -> Reply
+// The suspended mark of the object that capability k is for.
+fn set_suspended(bytes: &mut [u8], links: &[u16], k: usize, suspended: bool) -> Reply
     requires { MarkAsks bytes.old links.now k }
     ensures { (w : List ℕ) → Replies result bytes.new links.now w
-        (suspended_run bytes.old links.now w k mark) }
+        (suspended_run bytes.old links.now w k (from_bool suspended)) }
 {
-    let o = target(links, k);
-    if has_flag(bytes, o) {
-        bytes[SUSPENDED + o] = mark;
-        return Reply::done();
-    }
-    Reply::refused(NOT_PROCESS)
+    let o = process_of(bytes, links, k)?;
+    bytes[SUSPENDED + o] = u8::from(suspended);
+    Ok(Given::done())
 }
 
 pub fn suspend(bytes: &mut [u8], links: &[u16], k: usize) -> Reply
@@ -31,7 +27,7 @@ pub fn suspend(bytes: &mut [u8], links: &[u16], k: usize) -> Reply
     ensures { (w : List ℕ) → Replies result bytes.new links.now w
         (suspended_run bytes.old links.now w k 1) }
 {
-    set_suspended(bytes, links, k, 1)
+    set_suspended(bytes, links, k, true)
 }
 
 pub fn resume(bytes: &mut [u8], links: &[u16], k: usize) -> Reply
@@ -39,7 +35,7 @@ pub fn resume(bytes: &mut [u8], links: &[u16], k: usize) -> Reply
     ensures { (w : List ℕ) → Replies result bytes.new links.now w
         (suspended_run bytes.old links.now w k 0) }
 {
-    set_suspended(bytes, links, k, 0)
+    set_suspended(bytes, links, k, false)
 }
 
 // The waiting mark of the caller, in slot me, where its box is empty.
@@ -51,5 +47,5 @@ pub fn wait(bytes: &mut [u8], me: usize) -> Reply
     if bytes[COUNT + me] == 0 {
         bytes[WAITING + me] = 1;
     }
-    Reply::done()
+    Ok(Given::done())
 }

@@ -6,12 +6,11 @@ ghost use Rattle.call_steps.specs.Replies.{Replies};
 ghost use Rattle.call_steps.specs.Tests.{ObjectSlot};
 ghost use Rattle.call_marks.specs.Runs.{Room, ReviveAsks, moved_words, revive_run};
 
-use crate::flag::has_flag;
-use call_steps::request::Reply;
-use call_steps::target::target;
+use crate::process::process_of;
+use call_steps::request::{Given, Reply};
 use layout::{CASH, TERMINATED};
 use values::cash::Cash;
-use values::code::{NOT_PROCESS, NOT_REVIVABLE, TOO_LITTLE};
+use values::refusal::Refusal;
 
 // The sum moves from the cash at slot me to that at slot o: first taken, then added to what that left.
 fn move_cash(words: &mut [u32], me: usize, o: usize, sum: u32)
@@ -40,20 +39,14 @@ pub fn revive(
     ensures { Replies result bytes.new links.now words.new
         (revive_run bytes.old links.now words.old me k sum) }
 {
-    let o = target(links, k);
-    if has_flag(bytes, o) {
-        if bytes[TERMINATED + o] == 0 {
-            return Reply::refused(NOT_REVIVABLE);
-        }
-        if sum == 0 {
-            return Reply::refused(NOT_REVIVABLE);
-        }
-        if Cash(words[CASH + me]).below(sum) {
-            return Reply::refused(TOO_LITTLE);
-        }
-        move_cash(words, me, o, sum);
-        bytes[TERMINATED + o] = 0;
-        return Reply::done();
+    let o = process_of(bytes, links, k)?;
+    if bytes[TERMINATED + o] == 0 || sum == 0 {
+        return Err(Refusal::NotRevivable);
     }
-    Reply::refused(NOT_PROCESS)
+    if Cash(words[CASH + me]).below(sum) {
+        return Err(Refusal::TooLittle);
+    }
+    move_cash(words, me, o, sum);
+    bytes[TERMINATED + o] = 0;
+    Ok(Given::done())
 }

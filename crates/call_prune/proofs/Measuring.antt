@@ -4,6 +4,7 @@ use mathlib.Core.Path.{◌≡◌, refl, sym, ap, ◌∙◌, subst}
 use mathlib.Core.Logic.{◌≢◌}
 use mathlib.Core.Bool.{Bool, true, false}
 use mathlib.Core.List.{List, ◌∷◌}
+use Rattle.std.proofs.Common.{Some, None}
 use native.Mathlib.Omega.{arith}
 use lib.Dec.{eqb}
 use lib.ListN.{length}
@@ -20,7 +21,7 @@ use Rattle.layout.specs.Shape.{Shape}
 use Rattle.layout.proofs.Field.{field-low, field-high}
 use Rattle.layout.proofs.Shaped.{shaped}
 use Rattle.layout.proofs.Shown.{set-yes}
-use Rattle.call_prune.specs.Links.{dropped_links, turned_links, turned_slot, pruned_from, pruned_links, NamesSlots, LivingCap}
+use Rattle.call_prune.specs.Links.{dropped_links, turned_links, turned_slot, pruned_from, pruned_links, NamesSlots, LivingCap, TurnLeaves}
 use Rattle.call_prune.proofs.Shapes.{placed}
 use Rattle.call_prune.proofs.Dropping.{dropped-rows, dropped-owners}
 use Rattle.call_prune.proofs.Pruning.{Pruning, pruning-start, turn-placed, turn_by, child-parent, child-live, has-parent}
@@ -166,6 +167,20 @@ turning-start {l} {k} L = record {
   enough = left-high l k;
   same = refl;
 }
+
+some-none : {i : ℕ} → Some i ≢ None
+some-none e = cc
+
+-- a turn that goes on does so at a slot
+pub turn-on : {l₀ l l' : List ℕ} {k j i : ℕ} → Turning l₀ k l j → j ≢ 0 → TurnLeaves l k j l' (Some i) → i ≢ 0
+turn-on {l₀} {l} {l'} {k} {j} {i} t some T = turn_by (λ _ s. i ≡ s → i ≢ 0) l k j
+    (λ nz e z. nz (sym e ∙ z))
+    (λ z e _. absurd (some-none (T.over z e)))
+    (λ z n e q. has-parent t.size t.state some z n (sym e ∙ q))
+    T.slot_is
+
+pub turning-at : {l : List ℕ} {k : ℕ} → LivingCap l k → k ≢ 0
+turning-at {l} {k} L z = omega (arith, z, field-low 512 Layout.OWNER l k L.live)
 
 turning-step : {l₀ l : List ℕ} {k j : ℕ} → length l₀ ≡ Layout.LINKS → Pruning l₀ k l j → j ≢ 0
     → (n : ℕ) → left l j ≤ n → pruned_links l₀ k ≡ pruned_from n l k j

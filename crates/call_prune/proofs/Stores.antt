@@ -3,6 +3,7 @@ use Prim.Native.Nat.{ℕ, ◌+◌, ◌≤◌, ◌<◌}
 use mathlib.Core.Path.{◌≡◌, refl, sym, ◌∙◌}
 use mathlib.Core.Logic.{◌≢◌}
 use mathlib.Core.List.{List}
+use Rattle.std.proofs.Common.{Some, None}
 use native.Mathlib.Omega.{arith}
 use lib.Dec.{eqb}
 use lib.ListN.{length, get_or, set, length-set}
@@ -107,18 +108,19 @@ module _ {l : List ℕ} {j : ℕ} (P : NamesSlots l j) (k c : ℕ) (e : c ≡ ge
   first-is : first_child_of l j ≡ c
   first-is = cell P Layout.FIRST_CHILD ∙ sym e
 
-  pub turn-down : c ≢ 0 → TurnLeaves l k j l c
+  pub turn-down : c ≢ 0 → TurnLeaves l k j l (Some c)
   turn-down nz =
       let ne : first_child_of l j ≢ 0 = λ z. nz (sym first-is ∙ z) in
-      record { links-is = sym (down-links l k j ne); slot_is = sym (down-slot l k j ne ∙ first-is) }
+      record { links-is = sym (down-links l k j ne); slot_is = sym (down-slot l k j ne ∙ first-is); over = λ z _. absurd (ne z) }
 
-  pub turn-over : c ≡ 0 → j ≡ k → TurnLeaves l k j l 0
+  pub turn-over : c ≡ 0 → j ≡ k → TurnLeaves l k j l None
   turn-over z q =
-      record { links-is = sym (over-links l k j (first-is ∙ z) q); slot_is = sym (over-slot l k j (first-is ∙ z) q) }
+      record { links-is = sym (over-links l k j (first-is ∙ z) q); slot_is = sym (over-slot l k j (first-is ∙ z) q); over = λ _ _. refl }
 
   pub turn_up : c ≡ 0 → j ≢ k → (u : ℕ) → u ≡ get_or l (Layout.PARENT + j) 0 → (l' : List ℕ) → l' ≡ dropped_links l j
-      → TurnLeaves l k j l' u
+      → TurnLeaves l k j l' (Some u)
   turn_up z n u r l' d = record {
     links-is = d ∙ sym (up-links l k j (first-is ∙ z) n);
     slot_is = r ∙ sym (cell P Layout.PARENT) ∙ sym (up-slot l k j (first-is ∙ z) n);
+    over = λ _ q. absurd (n q);
   }

@@ -1,5 +1,5 @@
 -- Capabilities that end: the links without a leaf, without all that is below a capability, and without both.
-use Rattle.std.specs.Prelude.{ℕ, zero, suc, ◌+◌, ◌≤◌, ◌≡◌, ◌≢◌, true, false, List, eqb, length, get_or, set}
+use Rattle.std.specs.Prelude.{ℕ, zero, suc, ◌+◌, ◌≤◌, ◌≡◌, ◌≢◌, true, false, List, eqb, length, get_or, set, Option, None, unwrap_or}
 use Rattle.rules.specs.Limit as Limit
 use Rattle.layout.specs.Layout as Layout
 use Rattle.layout.specs.Rows.{owner_of, parent_of, first_child_of, next_cap_of, prev_cap_of}
@@ -16,7 +16,12 @@ named_at p q = elim (eqb q 0) [ true ↦ Layout.FIRST_CHILD + p | false ↦ Layo
 abbrev pub skipped : List ℕ → ℕ → ℕ → ℕ → List ℕ
 skipped l p q s = set (set l (named_at p q) s) (Layout.PREV_CAP + s) q
 
--- 01, "A freed record or block is used again": j is in front of the free records, of no object
+-- 01, "A freed record or block is used again": j is in front of the free records of its kind, whose links are in the row
+-- `next` and whose first is in the cell `head`, and its cell of the row `of` is 0
+unfoldable pub freed : ℕ → ℕ → ℕ → List ℕ → ℕ → List ℕ
+freed of next head l j = set (set (set l (of + j) 0) (next + j) (get_or l head 0)) head j
+
+-- a capability's, of no object
 unfoldable pub freed_cap : List ℕ → ℕ → List ℕ
 freed_cap l j = set
     (set (set l (Layout.OWNER + j) 0) (Layout.NEXT_CAP + j) (get_or l Layout.FREE_CAPS 0))
@@ -87,6 +92,8 @@ pub record Child (l : List ℕ) (k : ℕ) : Type 0 where
   pub parent : parent_of l k ≢ 0
 
 -- one turn at slot j leaves the links l' and goes on at slot r
-pub record TurnLeaves (l : List ℕ) (k j : ℕ) (l' : List ℕ) (r : ℕ) : Type 0 where
+pub record TurnLeaves (l : List ℕ) (k j : ℕ) (l' : List ℕ) (r : Option ℕ) : Type 0 where
   pub links-is : l' ≡ turned_links l k j
-  pub slot_is : r ≡ turned_slot l k j
+  pub slot_is : unwrap_or r 0 ≡ turned_slot l k j
+  -- none where k is a leaf
+  pub over : first_child_of l j ≡ 0 → j ≡ k → r ≡ None

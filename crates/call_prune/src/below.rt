@@ -4,23 +4,23 @@ ghost use Rattle.std.specs.Prelude.{◌≡◌};
 ghost use Rattle.call_prune.specs.Links.{pruned_links, NamesSlots, LivingCap, TurnLeaves};
 
 use crate::leaf::drop_leaf;
-use layout::{FIRST_CHILD, PARENT, slot};
+use layout::{FIRST_CHILD, PARENT};
 
-// One turn at slot j: down to its first child, or up from it once it has ended; 0 where k itself is a leaf.
-fn turn(links: &mut [u16], k: usize, j: usize) -> usize
+// One turn at slot j: down to its first child, or up from it once it has ended; none where k itself is a leaf.
+fn turn(links: &mut [u16], k: usize, j: usize) -> Option<usize>
     requires { NamesSlots links.old j }
     ensures { TurnLeaves links.old k j links.new result }
 {
-    let child = slot(links[FIRST_CHILD + j]);
+    let child = usize::from(links[FIRST_CHILD + j]);
     if child != 0 {
-        return child;
+        return Some(child);
     }
     if j == k {
-        return 0;
+        return None;
     }
-    let up = slot(links[PARENT + j]);
+    let up = usize::from(links[PARENT + j]);
     drop_leaf(links, j);
-    up
+    Some(up)
 }
 
 // Ends all below k, and leaves k alive.
@@ -29,7 +29,7 @@ pub fn prune_below(links: &mut [u16], k: usize)
     ensures { links.new ≡ pruned_links links.old k }
 {
     let mut j = k;
-    while 0 < j {
-        j = turn(links, k, j);
+    while let Some(next) = turn(links, k, j) {
+        j = next;
     }
 }

@@ -4,18 +4,19 @@ ghost use Rattle.rules.specs.Limit;
 ghost use Rattle.call_prune.specs.Links.{named_at, dropped_links, NamesSlots};
 
 use crate::free::free_cap;
-use layout::{FIRST_CHILD, NEXT_CAP, PARENT, PREV_CAP, slot};
+use layout::{FIRST_CHILD, NEXT_CAP, PARENT, PREV_CAP};
 
 // The cell that names a capability with parent p and previous sibling q.
 fn named_at(p: usize, q: usize) -> usize
-    requires fact_1 { p ≤ Limit.caps }
-    requires fact_2 { q ≤ Limit.caps }
+    requires parent { p ≤ Limit.caps }
+    requires sibling { q ≤ Limit.caps }
     ensures { result ≡ named_at p q }
 {
     if q == 0 {
-        return FIRST_CHILD + p;
+        FIRST_CHILD + p
+    } else {
+        NEXT_CAP + q
     }
-    NEXT_CAP + q
 }
 
 // Ends j, which has no child and is no master.
@@ -23,10 +24,10 @@ pub(crate) fn drop_leaf(links: &mut [u16], j: usize)
     requires { NamesSlots links.old j }
     ensures { links.new ≡ dropped_links links.old j }
 {
-    let p = slot(links[PARENT + j]);
+    let p = usize::from(links[PARENT + j]);
     let prev = links[PREV_CAP + j];
     let next = links[NEXT_CAP + j];
-    links[named_at(p, slot(prev))] = next;
-    links[PREV_CAP + slot(next)] = prev;
+    links[named_at(p, usize::from(prev))] = next;
+    links[PREV_CAP + usize::from(next)] = prev;
     free_cap(links, j);
 }

@@ -5,9 +5,5 @@ ghost use Rattle.std.specs.Prelude.{◌≡◌, length, replicate};
 pub fn clear(scratch: &mut [u16])
     ensures { scratch.new ≡ replicate (length scratch.old) 0 }
 {
-    let mut i = 0;
-    while i < scratch.len() {
-        scratch[i] = 0;
-        i += 1;
-    }
+    scratch.fill(0);
 }

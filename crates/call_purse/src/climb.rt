@@ -56,7 +56,7 @@ fn above(links: &[u16], k: usize) -> usize
     requires { (length links.now ≡ Layout.LINKS) × (1 ≤ k) × (k ≤ Limit.caps) }
     ensures { result ≡ parent_of links.now k }
 {
-    links[PARENT + k] as usize
+    usize::from(links[PARENT + k])
 }
 
 // The moneyword of the capability in slot k.

@@ -12,11 +12,11 @@ ghost use Rattle.call_purse.specs.Calls.{Payable, Withdrawable, withdraw_run, de
 pub mod climb;
 pub mod way;
 
-use call_steps::request::Reply;
+use call_steps::request::{Given, Reply};
 use climb::{climb_moves, climb_stops};
 use layout::CASH;
 use values::cash::Cash;
-use values::code::{OVERFLOWS, TOO_LITTLE};
+use values::refusal::Refusal;
 use way::Way;
 
 // Takes the sum from each moneyword on the climb from k and adds it once to the caller's cash; 9 where one is below it.
@@ -26,12 +26,12 @@ pub fn withdraw(links: &[u16], words: &mut [u32], me: usize, k: usize, sum: u32)
         (withdraw_run b links.now words.old me k sum) }
 {
     if climb_stops(Way::Out, links, words, k, sum) {
-        return Reply::refused(TOO_LITTLE);
+        return Err(Refusal::TooLittle);
     }
     let cash = cash_of(words, me);
     climb_moves(Way::Out, links, words, k, sum);
     words[CASH + me] = cash.0 + sum;
-    Reply::done()
+    Ok(Given::done())
 }
 
 // Takes the sum from the caller's cash and adds it to each moneyword on the climb from k; 9 where the cash is below it,
@@ -43,14 +43,14 @@ pub fn deposit(links: &[u16], words: &mut [u32], me: usize, k: usize, sum: u32) 
 {
     let cash = cash_of(words, me);
     if cash.below(sum) {
-        return Reply::refused(TOO_LITTLE);
+        return Err(Refusal::TooLittle);
     }
     if climb_stops(Way::Into, links, words, k, sum) {
-        return Reply::refused(OVERFLOWS);
+        return Err(Refusal::Overflows);
     }
     climb_moves(Way::Into, links, words, k, sum);
     words[CASH + me] = cash.less(sum).0;
-    Reply::done()
+    Ok(Given::done())
 }
 
 // The cash of the process in slot o.

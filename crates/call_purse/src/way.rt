@@ -4,6 +4,8 @@ ghost use Rattle.call_purse.specs.Climb.{stops, moves};
 
 use values::moneyword::Moneyword;
 
+// kept: an enum matched in `stops` and `moves`. A trait with a type for each way would say both again as ghost members
+// and laws, beside the definitions of specs/Climb.antt, and `climb_stops` and `climb_moves` would read the same.
 #[derive(Clone, Copy)]
 pub enum Way {
     Out,

@@ -1,5 +1,5 @@
 -- The run by what the code found in the cells: which of its refusals stops it, or what it leaves.
-use Prim.Native.Nat.{ℕ, ◌+◌}
+use Prim.Native.Nat.{ℕ, ◌+◌, ◌≤◌}
 use mathlib.Core.Path.{◌≡◌, refl, sym, ap, ◌∙◌}
 use mathlib.Core.Logic.{◌≢◌}
 use mathlib.Core.Bool.{Bool, true, false}
@@ -18,7 +18,8 @@ use Rattle.layout.proofs.Field.{field_in, field-low, field-high}
 use Rattle.call_steps.specs.Refuses.{Refuses}
 use Rattle.call_steps.specs.Replies.{Gives}
 use Rattle.call_steps.specs.Tests.{CapSlot, taken}
-use Rattle.call_steps.specs.declared.request.Reply.{Reply}
+use Rattle.call_steps.specs.Request.{Reply}
+use Rattle.values.specs.Refusals.{code_of}
 use Rattle.call_steps.proofs.Replying.{refused-code, gives-code, replies-stopped, replies-done}
 use Rattle.call_prune.specs.Links.{LivingCap}
 use Rattle.call_prune.proofs.Clearing.{scratch-done, scratch-kept}
@@ -31,6 +32,9 @@ slot_of {l} {k} L = record {
   low = field-low 512 Layout.OWNER l k L.live;
   high = field-high 512 Layout.OWNER l k L.live;
 }
+
+pub cap_high : {l : List ℕ} {k : ℕ} → LivingCap l k → k ≤ 512
+cap_high L = (slot_of L).high
 
 pub cell : {l : List ℕ} {k : ℕ} → LivingCap l k → (off : ℕ) → field 512 off l k ≡ get_or l (off + k) 0
 cell {l} {k} L off = let at = slot_of L in field_in 512 off l k at.low at.high
@@ -52,7 +56,7 @@ module _ {b l w scratch : List ℕ} {k : ℕ} {drawn : Password} {r : Reply} whe
   unfolding rename_run
   not-master nz R = record {
     replies = replies-stopped (renamed b l w k drawn) 11 (stop-child b l w k drawn.p1 nz) (omega arith) R;
-    scratch-left = scratch-kept r.code scratch (λ z. omega (arith, refused-code R));
+    scratch-left = scratch-kept (code_of r) scratch (λ z. omega (arith, refused-code R));
   }
 
   -- o is the object, t whether p1 is taken in it
@@ -63,7 +67,7 @@ module _ {b l w scratch : List ℕ} {k : ℕ} {drawn : Password} {r : Reply} whe
     unfolding rename_run rename_stop first ◌when◌
     p1-taken y R = record {
       replies = replies-stopped (renamed b l w k drawn) 12 (rw (eq-eqb (parent_of l k) 0 z, test-is b l w k drawn.p1 q e, y)) (omega arith) R;
-      scratch-left = scratch-kept r.code scratch (λ x. omega (arith, refused-code R));
+      scratch-left = scratch-kept (code_of r) scratch (λ x. omega (arith, refused-code R));
     }
 
     pub renews : {l' w' scratch' : List ℕ} {n : Name} → t ≡ false → n ≡ ((view b l w).object o).name
@@ -78,5 +82,5 @@ module _ {b l w scratch : List ℕ} {k : ℕ} {drawn : Password} {r : Reply} whe
         links = N.links;
         words = N.words;
       });
-      scratch-left = N.cleared ∙ scratch-done r.code scratch (gives-code H (view b l w));
+      scratch-left = N.cleared ∙ scratch-done (code_of r) scratch (gives-code H (view b l w));
     }

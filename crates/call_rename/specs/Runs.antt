@@ -14,7 +14,8 @@ use Rattle.layout.specs.WellFormed.{Sized}
 use Rattle.call_steps.specs.Run.{Ran, settled}
 use Rattle.call_steps.specs.Replies.{Replies}
 use Rattle.call_steps.specs.Tests.{ObjectSlot, taken}
-use Rattle.call_steps.specs.declared.request.Reply.{Reply}
+use Rattle.call_steps.specs.Request.{Reply}
+use Rattle.values.specs.Refusals.{code_of}
 use Rattle.call_prune.specs.Links.{pruned_links, LivingCap}
 use Rattle.call_prune.specs.Scratch.{scratch_left}
 
@@ -65,4 +66,4 @@ pub record RenameAsks (b l w : List ℕ) (k : ℕ) : Type 0 where
 -- the reply r and the slices that are left are the run; the scratch is as its code says
 pub record Renames (b l w scratch : List ℕ) (k : ℕ) (drawn : Password) (r : Reply) (l' w' scratch' : List ℕ) : Type 0 where
   pub replies : Replies r b l' w' (rename_run b l w k drawn)
-  pub scratch-left : scratch' ≡ scratch_left r.code scratch
+  pub scratch-left : scratch' ≡ scratch_left (code_of r) scratch

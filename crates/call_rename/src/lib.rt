@@ -9,12 +9,13 @@ ghost use Rattle.call_rename.specs.Runs.{RenewAsks, Renews, RenameAsks, Renames}
 use call_prune::below::prune_below;
 use call_prune::scratch::clear;
 use call_steps::objects::name_at;
-use call_steps::request::Reply;
+use call_steps::request::{Given, Reply};
 use call_steps::taken::p1_taken;
-use layout::{OWNER, P1, P2, PARENT, slot};
-use values::code::{NOT_MASTER, TAKEN};
+use layout::{OWNER, P1, P2, PARENT};
+use values::refusal::Refusal;
 
 // All below k end, and its record holds the new master: only the password differs.
+#[tactic(auto, using(crate::proofs::Stops::cap_high))]
 fn renew(links: &mut [u16], words: &mut [u32], scratch: &mut [u16], k: usize, drawn: [u32; 2])
     requires { RenewAsks links.old words.old k }
     ensures { Renews links.old words.old scratch.old k (password_of drawn)
@@ -27,6 +28,7 @@ fn renew(links: &mut [u16], words: &mut [u32], scratch: &mut [u16], k: usize, dr
 }
 
 // The object that the capability in slot k is for.
+#[tactic(auto, using(crate::proofs::Stops::cap_high))]
 pub fn rename_obj(
     bytes: &[u8],
     links: &mut [u16],
@@ -39,15 +41,14 @@ pub fn rename_obj(
     ensures { Renames bytes.now links.old words.old scratch.old k
         (password_of drawn) result links.new words.new scratch.new }
 {
-    let parent = slot(links[PARENT + k]);
-    if parent != 0 {
-        return Reply::refused(NOT_MASTER);
+    if links[PARENT + k] != 0 {
+        return Err(Refusal::NotMaster);
     }
-    let o = slot(links[OWNER + k]);
+    let o = usize::from(links[OWNER + k]);
     if p1_taken(links, words, o, drawn[0]) {
-        return Reply::refused(TAKEN);
+        return Err(Refusal::Taken);
     }
     let name = name_at(bytes, links, o);
     renew(links, words, scratch, k, drawn);
-    Reply::hands_back(name, drawn)
+    Ok(Given::hands_back(name, drawn))
 }

@@ -3,23 +3,42 @@ use Prim.Native.Nat.{ℕ, zero, suc, ◌+◌, ◌-◌, ◌≤◌, ◌<◌}
 use mathlib.Core.Path.{◌≡◌, refl, sym, ap, ap₂, ◌∙◌, subst}
 use mathlib.Core.Logic.{◌≢◌}
 use mathlib.Core.List.{List}
-use mathlib.Core.Bool.{Bool, true, false, ◌||◌, false≢true}
+use mathlib.Core.Bool.{Bool, true, false, not, ◌||◌, false≢true, true≢false}
 use native.Mathlib.Omega.{arith}
 use lib.Dec.{eqb}
-use lib.ListN.{get_or}
-use Rattle.rules.specs.Slots.{find, some}
+use lib.ListN.{get_or, length, take, drop}
+use Rattle.rules.specs.Slots.{find}
 use Rattle.rules.proofs.Tests.{by-eq, by_bool, refuted}
-use Rattle.rules.proofs.Slots.{find-finds, some-none}
-use Rattle.call_steps.specs.Tests.{SameFrom, cell_is}
+use Rattle.rules.proofs.Slots.{find-finds}
+use Rattle.std.specs.Prelude.{Option, Some, None, is_some}
+use Rattle.std.specs.List.{list_any, between}
+use Rattle.std.proofs.lemmas.List.{take-append-drop, drop-drop, length-drop, get_or-drop}
+use Rattle.std.proofs.lemmas.List.Edits.{length-between, get_or-between}
+use Rattle.std.proofs.lemmas.List.Folds.{list_any-append, list_any_at}
+use Rattle.call_steps.specs.Tests.{SameFrom, cell_is, slot_found}
 use borrow.Author.Tests.{eq-eqb, ne_eqb}
 
-or-true : (a : Bool) → (a || true) ≡ true
-or-true true = refl
-or-true false = refl
+pub slot-is-some : (n : ℕ) → is_some (slot_found n) ≡ not (eqb n 0)
+slot-is-some zero = refl
+slot-is-some (suc n) = rw (ne_eqb (suc n) 0 (omega arith))
 
-or-false : (a : Bool) → (a || false) ≡ a
-or-false true = refl
-or-false false = refl
+-- a slot is found where it is not 0
+pub slot-some : (i : ℕ) → 1 ≤ i → Some i ≡ slot_found i
+slot-some zero h = absurd (omega arith)
+slot-some (suc n) h = refl
+
+abbrev slot_or_0 : Option ℕ → ℕ
+slot_or_0 None = 0
+slot_or_0 (Some i) = i
+
+-- what is found, and that it is not 0; or that it is
+pub slot_of : (n i : ℕ) → Some i ≡ slot_found n → (i ≡ n) × (1 ≤ i)
+slot_of zero i e = absurd (true≢false (ap is_some e))
+slot_of (suc n) i e = let q : i ≡ suc n = ap slot_or_0 e in (q, omega (arith, q))
+
+pub slot_none : (n : ℕ) → None ≡ slot_found n → n ≡ 0
+slot_none zero e = refl
+slot_none (suc n) e = absurd (false≢true (ap is_some e))
 
 module _ (t : ℕ → Bool) where
   -- a slot that passes the test is found, one that fails is passed over
@@ -56,19 +75,6 @@ module _ (t : ℕ → Bool) where
       find-down n (none (suc n) (omega arith) (omega arith))
       ∙ find-passed n i (omega arith) (λ k a b. none k a (omega arith)))
 
-  -- some slot of 1 to n + 1 passes: one of 1 to n, or the last
-  pub some-zero : some 0 t ≡ false
-  unfolding some
-  some-zero = rw (find-end 0 refl)
-
-  pub some-on : (n : ℕ) → (some n t || t (n + 1)) ≡ some (n + 1) t
-  unfolding some
-  some-on n = by_bool (t (n + 1))
-      (λ e. rw (e, find-this (n + 1) (omega arith) e, ne_eqb (n + 1) 0 (omega arith)) (or-true (some n t)))
-      (λ e.
-      let q : n + 1 - 1 ≡ n = omega arith in
-      rw (e, find-next (n + 1) (omega arith) e, q) (or-false (some n t)))
-
   -- ---- where the search goes on
 
   pub same_start : (n : ℕ) → SameFrom t n n
@@ -78,20 +84,23 @@ module _ (t : ℕ → Bool) where
     pub same_next : 1 ≤ i → t i ≡ false → SameFrom t n (i - 1)
     same_next low e = record { high = omega (arith, now.high); same = now.same ∙ find-next i low e }
 
-    -- past the g slots down from i, none of which passes
-    pub same-past : (g : ℕ) → g ≤ i → some g (λ j. t (i - g + j)) ≡ false → SameFrom t n (i - g)
-    same-past g h e = record {
-      high = omega (arith, now.high);
-      same = now.same ∙ find-passed i (i - g) (omega arith) (λ k a b.
-          let q : i - g + (k - (i - g)) ≡ k = omega arith in
-          subst (λ m. t m ≡ false) q (some-none g (λ j. t (i - g + j)) e (k - (i - g)) (omega arith) (omega arith)));
-    }
-
     pub same-found : 1 ≤ i → t i ≡ true → i ≡ find n t
     same-found low e = sym (now.same ∙ find-this i low e)
 
     pub same_end : i ≡ 0 → 0 ≡ find n t
     same_end e = sym (now.same ∙ find-end i e)
+
+    -- slot i passes, and is found
+    pub found-at : 1 ≤ i → t i ≡ true → Some i ≡ slot_found (find n t)
+    found-at low e = slot-some i low ∙ ap slot_found (same-found low e)
+
+    -- none is left
+    pub found-none : i ≡ 0 → None ≡ slot_found (find n t)
+    found-none e = ap slot_found (same_end e)
+
+    -- of a loop that counts down, its counter one above
+    pub before : SameFrom t n (i + 1 - 1)
+    before = let q : i ≡ i + 1 - 1 = omega arith in subst (SameFrom t n) q now
 
 -- where all that pass t pass u, t finds the same among those that pass u
 module _ (t u : ℕ → Bool) where
@@ -130,15 +139,41 @@ module _ (off : ℕ) (l : List ℕ) (x k : ℕ) where
   unfolding cell_is
   cell-not h = ne_eqb _ _ h
 
--- the cells of a group, taken in order; v is the cell after the first j
-module _ (off : ℕ) (l : List ℕ) (x base j : ℕ) where
-  pub any-on : (a r : Bool) (v : ℕ) → a ≡ some j (λ i. cell_is off l x (base + i))
-      → v ≡ get_or l (off + (base + (j + 1))) 0 → r ≡ (a || eqb v x)
-      → r ≡ some (j + 1) (λ i. cell_is off l x (base + i))
-  unfolding cell_is
-  any-on a r v e z q =
-      q ∙ ap₂ (λ y u. y || eqb u x) e z ∙ some-on (λ i. cell_is off l x (base + i)) j
+-- ---- cells of which none passes
 
-  pub any-all : (n : ℕ) (r : Bool) → j ≡ n → r ≡ some j (λ i. cell_is off l x (base + i))
-      → r ≡ some n (λ i. cell_is off l x (base + i))
-  any-all n r e q = rw e at q
+module _ {X : Type 0} (p : X → Bool) (xs : List X) where
+  -- none of a group, and none after it
+  pub none-before : (i g : ℕ) → g ≤ i → list_any p (take (i - (i - g)) (drop (i - g) xs)) ≡ false
+      → list_any p (drop i xs) ≡ false → list_any p (drop (i - g) xs) ≡ false
+  none-before i g h here after =
+      let k : ℕ = i - (i - g) in
+      let q : i - g + k ≡ i = omega arith in
+      let rest : drop k (drop (i - g) xs) ≡ drop i xs = drop-drop k (i - g) xs ∙ ap (λ m. drop m xs) q in
+      ap (list_any p) (sym (take-append-drop k (drop (i - g) xs)))
+      ∙ list_any-append p (take k (drop (i - g) xs)) (drop k (drop (i - g) xs))
+      ∙ ap₂ (λ a b. a || b) here (ap (list_any p) rest ∙ after)
+
+  none-at : (j : ℕ) (d : X) → list_any p xs ≡ false → j < length xs → p (get_or xs j d) ≡ false
+  none-at j d e h = refuted (p (get_or xs j d)) (λ q. false≢true (sym e ∙ list_any_at p xs j d h q))
+
+-- the cells of slots 1 to n, of which those of r + 1 to n are passed over
+module _ (off : ℕ) (l : List ℕ) (x n r : ℕ) where
+  pub same_skipped : off + 1 + n ≤ length l → r ≤ length (between (off + 1) (off + 1 + n) l)
+      → list_any (λ y. eqb y x) (drop r (between (off + 1) (off + 1 + n) l)) ≡ false → SameFrom (cell_is off l x) n r
+  unfolding cell_is
+  same_skipped room low passed =
+      let cells : List ℕ = between (off + 1) (off + 1 + n) l in
+      let size : length cells ≡ off + 1 + n - (off + 1) = length-between l (off + 1) (off + 1 + n) room in
+      let high : r ≤ n = omega (arith, size, low) in
+      record {
+        high = high;
+        same = find-passed (λ k. eqb (get_or l (off + k) 0) x) n r high (λ k a b.
+            let j : ℕ = k - (r + 1) in
+            let left : length (drop r cells) ≡ length cells - r = length-drop r cells in
+            let q : off + 1 + (r + j) ≡ off + k = omega arith in
+            let at : get_or (drop r cells) j 0 ≡ get_or l (off + k) 0 =
+            get_or-drop r cells j 0
+            ∙ get_or-between l (off + 1) (off + 1 + n) (r + j) 0 (omega arith)
+            ∙ ap (λ m. get_or l m 0) q in
+            subst (λ v. eqb v x ≡ false) at (none-at (λ y. eqb y x) (drop r cells) j 0 passed (omega (arith, left, size))));
+      }

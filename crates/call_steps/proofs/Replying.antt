@@ -1,16 +1,19 @@
 -- A reply and the slices left as a run: a refusal, a run that goes on, a done call with nothing to tell, bytes at the
 -- buffer's front.
 use Prim.Native.Nat.{ℕ}
-use mathlib.Core.Path.{◌≡◌, refl, ap, ◌∙◌, subst}
+use mathlib.Core.Path.{◌≡◌, refl, sym, ap, ◌∙◌, subst}
 use mathlib.Core.Logic.{◌≢◌}
-use mathlib.Core.List.{List}
+use mathlib.Core.List.{List, []}
 use lib.ListN.{length, take, drop}
+use Rattle.std.specs.Prelude.{Ok, Err}
 use lib.Seq.{take-append_seam}
 use Rattle.rules.specs.Store.{Name, Password, State}
 use Rattle.rules.specs.Call.{Answer, Outcome, code, done, hands_back, hands_over}
 use Rattle.layout.specs.View.{view}
-use Rattle.call_steps.specs.declared.request.Reply.{Reply}
-use Rattle.call_steps.specs.Request.{answer_of}
+use Rattle.values.specs.declared.refusal.Refusal.{Refusal}
+use Rattle.values.specs.Refusals.{number_of, code_of}
+use Rattle.values.proofs.Numbers.{number-some}
+use Rattle.call_steps.specs.Request.{Reply, answer_of, count_of}
 use Rattle.call_steps.specs.Run.{Ran, over, handed_over, settled, overlay}
 use Rattle.call_steps.specs.Refuses.{Refuses}
 use Rattle.call_steps.specs.Replies.{Gives, HandsOver, Answers, Replies, Fills}
@@ -18,13 +21,29 @@ use Rattle.call_steps.proofs.Meeting.{stopped, goes_on}
 
 -- ---- the code of a reply
 
-pub refused-code : {n : ℕ} {r : Reply} → Refuses n r → r.code ≡ n
-unfolding answer_of code
-refused-code R = ap (λ (a : Answer). a.code) R.answer
-
-pub gives-code : {o : State → Outcome} {r : Reply} → Gives o r → (s : State) → r.code ≡ (o s).answer.code
+-- a reply's code is its answer's, and the bytes are those at the buffer's front
+pub answer-code : (r : Reply) (bytes : List ℕ) → (answer_of r bytes).code ≡ code_of r
 unfolding answer_of
-gives-code G s = ap (λ (a : Answer). a.code) (G.answer s)
+answer-code (Ok x) bytes = refl
+answer-code (Err r) bytes = refl
+
+pub answer-bytes : (r : Reply) (bytes : List ℕ) → (answer_of r bytes).bytes ≡ bytes
+unfolding answer_of
+answer-bytes (Ok x) bytes = refl
+answer-bytes (Err r) bytes = refl
+
+-- `Err` refuses
+pub refuses : (r : Refusal) → Refuses (number_of r) (Err r)
+unfolding answer_of code
+refuses r = record { answer = refl; none = refl }
+
+pub refused-code : {n : ℕ} {r : Reply} → Refuses n r → code_of r ≡ n
+unfolding answer_of code
+refused-code {n} {r} R = sym (answer-code r []) ∙ ap (λ (a : Answer). a.code) R.answer
+
+pub gives-code : {o : State → Outcome} {r : Reply} → Gives o r → (s : State) → code_of r ≡ (o s).answer.code
+unfolding answer_of
+gives-code {o} {r} G s = sym (answer-code r []) ∙ ap (λ (a : Answer). a.code) (G.answer s)
 
 -- ---- a reply with no bytes
 
@@ -45,6 +64,10 @@ module _ {b l w : List ℕ} {r : Reply} where
   -- the refusal m, and nothing changed
   pub replies-stopped : {n : ℕ} (x : Ran) (m : ℕ) → n ≡ m → m ≢ 0 → Refuses m r → Replies r b l w (settled n b l w x)
   replies-stopped x m e nz R = refused-is R (stopped b l w x m e nz)
+
+-- `Err` is the refusal that is met, and nothing changed
+pub replies-refused : {b l w : List ℕ} {n : ℕ} (x : Ran) (r : Refusal) → n ≡ number_of r → Replies (Err r) b l w (settled n b l w x)
+replies-refused x r e = replies-stopped x (number_of r) e (number-some r) (refuses r)
 
 -- where none is met, the run x
 pub replies-done : (b l w : List ℕ) {b' l' w' : List ℕ} {r : Reply} {n : ℕ} (x : Ran) → n ≡ 0
@@ -80,7 +103,7 @@ module _ {b l w : List ℕ} {r : Reply} (buffer : List ℕ) {x : Ran} where
       → handed_over sum xs b l w ≡ x → Fills r b l w buffer buffer' x
   unfolding handed_over hands_over overlay
   fills-done {sum} xs buffer' H e h =
-      let front : take r.count buffer' ≡ xs =
+      let front : take (count_of r) buffer' ≡ xs =
       (λ d. take (H.counted d) (e d)) ∙ take-append_seam xs (drop (length xs) buffer) in
       subst (Fills r b l w buffer buffer') h (record {
         answers = record {

@@ -1,14 +1,17 @@
 -- A request as the rules' call, and a reply as their answer.
-use Rattle.std.specs.Prelude.{ℕ, List, [], ◌∷◌}
+use Rattle.std.specs.Prelude.{ℕ, List, [], ◌∷◌, Ok, Err, Result}
+use Rattle.rules.specs.Code as Code
 use Rattle.rules.specs.Store as Store
 use Rattle.rules.specs.Call as Call
 use Rattle.rules.specs.Rights.{read_number, write_number, withdraw_number}
 use Rattle.values.specs.Words.{password_of, lockword_of, window_of}
 use Rattle.values.specs.declared.window.Window.{Window}
+use Rattle.values.specs.declared.refusal.Refusal.{Refusal}
+use Rattle.values.specs.Refusals.{number_of}
 use Rattle.call_steps.specs.declared.request.Name.{Name}
 use Rattle.call_steps.specs.declared.request.Capability.{Capability}
 use Rattle.call_steps.specs.declared.request.Request.{Request}
-use Rattle.call_steps.specs.declared.request.Reply.{Reply}
+use Rattle.call_steps.specs.declared.request.Given.{Given}
 
 abbrev pub name_of : Name → Store.Name
 name_of n = record { volume = n.volume; serial = n.serial }
@@ -66,13 +69,30 @@ write_request caller presented range = presenting_request write_number caller pr
 abbrev pub withdraw_request : Name → Capability → ℕ → Request
 withdraw_request caller presented sum = presenting_request withdraw_number caller presented (record { start = 0; end = 0 }) sum
 
--- with the bytes at the buffer's front
+-- what a done call gives, or its refusal
+abbrev pub Reply : Type 0
+Reply = Result Given Refusal
+
+-- with the bytes at the buffer's front; a refusal tells its number alone
 unfoldable pub answer_of : Reply → List ℕ → Call.Answer
-answer_of r bytes = record {
-  code = r.code;
-  capability = capability_of r.capability;
-  length = r.length;
-  moneyword = r.moneyword;
-  sum = r.sum;
+answer_of (Ok x) bytes = record {
+  code = Code.done;
+  capability = capability_of x.capability;
+  length = x.length;
+  moneyword = x.moneyword;
+  sum = x.sum;
   bytes = bytes;
 }
+answer_of (Err r) bytes = record {
+  code = number_of r;
+  capability = Call.no_capability;
+  length = 0;
+  moneyword = 0;
+  sum = 0;
+  bytes = bytes;
+}
+
+-- how many bytes stand at the buffer's front
+abbrev pub count_of : Reply → ℕ
+count_of (Ok x) = x.count
+count_of (Err r) = 0

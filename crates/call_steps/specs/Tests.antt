@@ -1,5 +1,5 @@
 -- The rules' tests of one slot, each by its name, and the slots of which the code asks them.
-use Rattle.std.specs.Prelude.{ℕ, ◌+◌, ◌≤◌, ◌≡◌, Bool, not, ◌&&◌, ◌||◌, List, eqb, get_or}
+use Rattle.std.specs.Prelude.{ℕ, zero, suc, Option, Some, None, ◌+◌, ◌≤◌, ◌≡◌, Bool, not, ◌&&◌, ◌||◌, List, eqb, get_or}
 use Rattle.rules.specs.Limit as Limit
 use Rattle.rules.specs.Slots.{find}
 use Rattle.rules.specs.Store.{Name, State, same_name}
@@ -25,10 +25,6 @@ unmarked b o = not (is_set (suspended_of b o) || is_set (waiting_of b o) || is_s
 unfoldable pub taken : State → ℕ → ℕ → ℕ → Bool
 taken s o p1 i = eqb (s.cap i).object o && eqb (s.cap i).password.p1 p1
 
--- how many slots the code takes at once
-abbrev pub group : ℕ
-group = 16
-
 -- the cell of slot k in the row from off on is x, whether or not the slot holds a record
 unfoldable pub cell_is : ℕ → List ℕ → ℕ → ℕ → Bool
 cell_is off l x k = eqb (get_or l (off + k) 0) x
@@ -37,3 +33,8 @@ cell_is off l x k = eqb (get_or l (off + k) 0) x
 pub record SameFrom (t : ℕ → Bool) (n r : ℕ) : Type 0 where
   pub high : r ≤ n
   pub same : find n t ≡ find r t
+
+-- a slot that is found, where 0 is none
+abbrev pub slot_found : ℕ → Option ℕ
+slot_found zero = None
+slot_found (suc n) = Some (suc n)

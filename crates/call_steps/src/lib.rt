@@ -12,4 +12,3 @@ pub mod ranges;
 pub mod request;
 pub mod taken;
 pub mod target;
-pub mod widen;

@@ -8,11 +8,10 @@ ghost use Rattle.layout.specs.Rows.{master_of};
 ghost use Rattle.layout.specs.View.{view};
 ghost use Rattle.layout.specs.Sizes.{BytesLinks};
 ghost use Rattle.call_steps.specs.Request.{name_of};
-ghost use Rattle.call_steps.specs.Tests.{ObjectSlot, named, unmarked};
+ghost use Rattle.call_steps.specs.Tests.{ObjectSlot, named, unmarked, slot_found};
 
 use crate::groups::from_serial;
 use crate::request::Name;
-use crate::widen::{wide8, wide16};
 use layout::process::is_process;
 use layout::{MASTER, SERIAL, SUSPENDED, TERMINATED, VOLUME, WAITING};
 
@@ -22,29 +21,24 @@ fn is_named(bytes: &[u8], links: &[u16], o: usize, name: Name) -> bool
     requires fact_2 { ObjectSlot o }
     ensures { (w : List ℕ) → result ≡ named (view bytes.now links.now w) (name_of name) o }
 {
-    if wide16(links[SERIAL + o]) == name.serial {
-        if wide8(bytes[VOLUME + o]) == name.volume {
-            return links[MASTER + o] != 0;
-        }
-        return false;
-    }
-    false
+    u32::from(links[SERIAL + o]) == name.serial
+        && u32::from(bytes[VOLUME + o]) == name.volume
+        && links[MASTER + o] != 0
 }
 
-// The slot of the object with this name, 0 if there is none.
-pub fn find_object(bytes: &[u8], links: &[u16], name: Name) -> usize
+// The slot of the object with this name.
+pub fn find_object(bytes: &[u8], links: &[u16], name: Name) -> Option<usize>
     requires { BytesLinks bytes.now links.now }
     ensures { (w : List ℕ)
-        → result ≡ object_named (view bytes.now links.now w) (name_of name) }
+        → result ≡ slot_found (object_named (view bytes.now links.now w) (name_of name)) }
 {
-    let mut o = from_serial(links, name.serial);
-    while 0 < o {
+    let last = from_serial(links, name.serial);
+    for o in (1..last + 1).rev() {
         if is_named(bytes, links, o, name) {
-            return o;
+            return Some(o);
         }
-        o -= 1;
     }
-    0
+    None
 }
 
 // No mark of slot o is set.
@@ -53,13 +47,7 @@ fn is_unmarked(bytes: &[u8], o: usize) -> bool
     requires fact_2 { ObjectSlot o }
     ensures { result ≡ unmarked bytes.now o }
 {
-    if bytes[SUSPENDED + o] == 0 {
-        if bytes[WAITING + o] == 0 {
-            return bytes[TERMINATED + o] == 0;
-        }
-        return false;
-    }
-    false
+    bytes[SUSPENDED + o] == 0 && bytes[WAITING + o] == 0 && bytes[TERMINATED + o] == 0
 }
 
 // Slot me holds a process that is not suspended, waiting or terminated.
@@ -68,13 +56,7 @@ pub fn running(bytes: &[u8], links: &[u16], me: usize) -> bool
     requires fact_2 { me ≤ Limit.objects }
     ensures { (w : List ℕ) → result ≡ running (view bytes.now links.now w) me }
 {
-    if me == 0 {
-        return false;
-    }
-    if is_process(bytes, links, me) {
-        return is_unmarked(bytes, me);
-    }
-    false
+    me != 0 && is_process(bytes, links, me) && is_unmarked(bytes, me)
 }
 
 // The name of the living object in slot o.
@@ -85,7 +67,7 @@ pub fn name_at(bytes: &[u8], links: &[u16], o: usize) -> Name
     ensures { (w : List ℕ) → name_of result ≡ ((view bytes.now links.now w).object o).name }
 {
     Name {
-        volume: wide8(bytes[VOLUME + o]),
-        serial: wide16(links[SERIAL + o]),
+        volume: u32::from(bytes[VOLUME + o]),
+        serial: u32::from(links[SERIAL + o]),
     }
 }

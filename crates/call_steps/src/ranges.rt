@@ -18,74 +18,42 @@ use values::window::Window;
 pub fn name_fits(name: Name) -> bool
     ensures { result ≡ name_fits (name_of name) }
 {
-    if name.volume <= MAX_VOLUME {
-        name.serial <= MAX_SERIAL
-    } else {
-        false
-    }
+    name.volume <= MAX_VOLUME && name.serial <= MAX_SERIAL
 }
 
 // A read or write of at most 256 bytes.
 fn transfer_fits(range: Window) -> bool
     ensures { result ≡ transfer_fits (window_of range) }
 {
-    if range.start <= range.end {
-        range.end - range.start <= MAX_TRANSFER
-    } else {
-        false
-    }
+    range.start <= range.end && range.end - range.start <= MAX_TRANSFER
 }
 
 // make_obj's arguments.
 fn make_fits(name: Name, size: u32, flag: u32, rights: u32) -> bool
     ensures { result ≡ (name_fits (name_of name) && leb size Limit.size && leb flag 1 && leb rights Limit.rights) }
 {
-    if size > MAX_SIZE {
-        return false;
-    }
-    if flag > 1 {
-        return false;
-    }
-    if rights > MAX_RIGHTS {
-        return false;
-    }
-    name_fits(name)
+    name_fits(name) && size <= MAX_SIZE && flag <= 1 && rights <= MAX_RIGHTS
 }
 
 // read's.
 fn read_fits(range: Window, buffer: usize) -> bool
     ensures { result ≡ (transfer_fits (window_of range) && leb Limit.buffer buffer) }
 {
-    if transfer_fits(range) {
-        buffer >= MIN_BUFFER
-    } else {
-        false
-    }
+    transfer_fits(range) && buffer >= MIN_BUFFER
 }
 
 // write's: as many bytes come as the range holds.
 fn write_fits(range: Window, text: usize) -> bool
     ensures { result ≡ (transfer_fits (window_of range) && eqb text (range.end - range.start)) }
 {
-    if transfer_fits(range) {
-        let size = range.end - range.start;
-        text == size as usize
-    } else {
-        false
-    }
+    transfer_fits(range) && text == (range.end - range.start) as usize
 }
 
 // derive_cap's.
 pub fn derive_fits(rights: u32, range: Window, last_day: u32) -> bool
     ensures { result ≡ (leb rights Limit.rights && ordered (window_of range) && leb last_day Limit.day) }
 {
-    if rights > MAX_RIGHTS {
-        return false;
-    }
-    if range.start > range.end {
-        return false;
-    }
-    last_day <= MAX_DAY
+    rights <= MAX_RIGHTS && range.start <= range.end && last_day <= MAX_DAY
 }
 
 // The ranges of a call's own arguments, in call order.
@@ -93,8 +61,8 @@ fn arguments_fit(req: Request, text: usize, buffer: usize, scratch: usize) -> bo
     ensures { (d : List ℕ) → length d ≡ text
         → result ≡ arguments_fit (op req.number) (call_of req d buffer scratch) }
 {
-    let n = req.number;
-    match n {
+    // kept: 01 has "a decision over call numbers 1 to 16" here, and no enum of calls
+    match req.number {
         1 => make_fits(req.name, req.size, req.flag, req.rights),
         2 => read_fits(req.range, buffer),
         3 => write_fits(req.range, text),
@@ -126,11 +94,7 @@ pub fn presents(number: u32) -> bool
 fn presented_fits(number: u32, name: Name) -> bool
     ensures { result ≡ (not (presents (op number)) || name_fits (name_of name)) }
 {
-    if presents(number) {
-        name_fits(name)
-    } else {
-        true
-    }
+    !presents(number) || name_fits(name)
 }
 
 // The caller's name, the name presented where one is, and the call's own arguments; `text`, `buffer` and `scratch` are
@@ -138,13 +102,7 @@ fn presented_fits(number: u32, name: Name) -> bool
 pub fn in_range(req: Request, text: usize, buffer: usize, scratch: usize) -> bool
     ensures { (d : List ℕ) → length d ≡ text → result ≡ in_range (call_of req d buffer scratch) }
 {
-    if name_fits(req.caller) {
-        if presented_fits(req.number, req.presented.name) {
-            arguments_fit(req, text, buffer, scratch)
-        } else {
-            false
-        }
-    } else {
-        false
-    }
+    name_fits(req.caller)
+        && presented_fits(req.number, req.presented.name)
+        && arguments_fit(req, text, buffer, scratch)
 }

@@ -1,25 +1,24 @@
 // A request as it comes by value, and the reply to it: the rules' call and answer, without the lent slices.
-ghost use Rattle.std.specs.Prelude.{◌≡◌};
-ghost use Rattle.rules.specs.Call.{no_capability, done, hands_back, tells};
+ghost use Rattle.std.specs.Prelude.{◌≡◌, Ok};
+ghost use Rattle.rules.specs.Call.{done, hands_back, tells};
 ghost use Rattle.values.specs.Words.{password_of};
 ghost use Rattle.call_steps.specs.Request.{name_of, capability_of, presenting_request, read_request, write_request, withdraw_request};
-ghost use Rattle.call_steps.specs.Refuses.{Refuses};
 ghost use Rattle.call_steps.specs.Replies.{Gives, HandsOver};
 
-use values::code::DONE;
 use values::moneyword::Moneyword;
 use values::number::{READ, WITHDRAW, WRITE};
+use values::refusal::Refusal;
 use values::window::Window;
 
 // An object's name: its volume and a serial.
-#[derive(Clone, Copy)]
+#[derive(Clone, Copy, Debug, PartialEq, Eq)]
 pub struct Name {
     pub volume: u32,
     pub serial: u32,
 }
 
 // A capability as it is presented and handed back.
-#[derive(Clone, Copy)]
+#[derive(Clone, Copy, Debug, PartialEq, Eq)]
 pub struct Capability {
     pub name: Name,
     pub password: [u32; 2],
@@ -27,22 +26,18 @@ pub struct Capability {
 
 impl Capability {
     // None.
-    fn none() -> Capability
-        ensures { capability_of result ≡ no_capability }
-    {
-        Capability {
-            name: Name {
-                volume: 0,
-                serial: 0,
-            },
-            password: [0, 0],
-        }
-    }
+    const NONE: Capability = Capability {
+        name: Name {
+            volume: 0,
+            serial: 0,
+        },
+        password: [0, 0],
+    };
 }
 
 // Every call's arguments by their names; a call looks at its own alone. Pairs stand first, so that each lies in one
 // 8-byte word, and is read as such from where it was just stored.
-#[derive(Clone, Copy)]
+#[derive(Clone, Copy, Debug, PartialEq, Eq)]
 pub struct Request {
     pub caller: Name,
     pub presented: Capability,
@@ -72,9 +67,9 @@ impl Request {
         ensures { result ≡ presenting_request number caller presented range sum }
     {
         Request {
-            number: number,
-            caller: caller,
-            presented: presented,
+            number,
+            caller,
+            presented,
             name: Name {
                 volume: 0,
                 serial: 0,
@@ -83,8 +78,8 @@ impl Request {
             flag: 0,
             rights: 0,
             drawn: [0, 0],
-            range: range,
-            sum: sum,
+            range,
+            sum,
             lock: [0, 0],
             limit: 0,
             last_day: 0,
@@ -115,89 +110,65 @@ impl Request {
     }
 }
 
-// 0 or the refusal, and the results; `count` bytes stand at the buffer's front. Numbers that are handed over side by side
-// stand apart here: read as one, they would wait for the stores of both.
-#[derive(Clone, Copy)]
-pub struct Reply {
+// What a done call gives; `count` bytes stand at the buffer's front. Numbers that are handed over side by side stand apart here:
+// read as one, they would wait for the stores of both.
+#[derive(Clone, Copy, Debug, PartialEq, Eq)]
+pub struct Given {
     pub count: u32,
     pub length: u32,
     pub capability: Capability,
     pub moneyword: u32,
-    pub code: u32,
     pub sum: u32,
 }
 
-impl Reply {
-    // A done call with nothing to tell.
-    pub fn done() -> Reply
-        ensures { Gives done result }
-    {
-        Reply {
-            code: DONE,
-            capability: Capability::none(),
-            length: 0,
-            moneyword: 0,
-            sum: 0,
-            count: 0,
-        }
-    }
+// What a call gives, or its refusal.
+pub type Reply = Result<Given, Refusal>;
 
-    // A refusal.
-    pub fn refused(code: u32) -> Reply
-        ensures { Refuses code result }
+impl Given {
+    const NOTHING: Given = Given {
+        count: 0,
+        length: 0,
+        capability: Capability::NONE,
+        moneyword: 0,
+        sum: 0,
+    };
+
+    // Nothing to tell.
+    pub fn done() -> Given
+        ensures { Gives done (Ok result) }
     {
-        Reply {
-            code,
-            capability: Capability::none(),
-            length: 0,
-            moneyword: 0,
-            sum: 0,
-            count: 0,
-        }
+        Given::NOTHING
     }
 
     // A new capability, as drawn.
-    pub fn hands_back(name: Name, password: [u32; 2]) -> Reply
-        ensures { Gives (hands_back (name_of name) (password_of password)) result }
+    pub fn hands_back(name: Name, password: [u32; 2]) -> Given
+        ensures { Gives (hands_back (name_of name) (password_of password)) (Ok result) }
     {
-        Reply {
-            code: DONE,
-            capability: Capability {
-                name: name,
-                password: password,
-            },
-            length: 0,
-            moneyword: 0,
-            sum: 0,
-            count: 0,
+        Given {
+            capability: Capability { name, password },
+            ..Given::NOTHING
         }
     }
 
     // A sum, and `count` bytes at the buffer's front.
-    pub fn hands_over(sum: u32, count: u32) -> Reply
-        ensures { HandsOver sum count result }
+    pub fn hands_over(sum: u32, count: u32) -> Given
+        ensures { HandsOver sum count (Ok result) }
     {
-        Reply {
-            code: DONE,
-            capability: Capability::none(),
-            length: 0,
-            moneyword: 0,
-            sum: sum,
-            count: count,
+        Given {
+            sum,
+            count,
+            ..Given::NOTHING
         }
     }
 
     // A window's length and a moneyword.
-    pub fn tells(length: u32, moneyword: Moneyword) -> Reply
-        ensures { Gives (tells length moneyword.0) result }
+    pub fn tells(length: u32, moneyword: Moneyword) -> Given
+        ensures { Gives (tells length moneyword.0) (Ok result) }
     {
-        Reply {
-            code: DONE,
-            capability: Capability::none(),
-            length: length,
+        Given {
+            length,
             moneyword: moneyword.0,
-            sum: 0,
-            count: 0,
+            ..Given::NOTHING
         }
     }
 }

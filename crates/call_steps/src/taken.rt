@@ -15,5 +15,5 @@ pub fn p1_taken(links: &[u16], words: &[u32], o: usize, p1: u32) -> bool
     ensures { (b : List ℕ)
         → result ≡ some Limit.caps (taken (view b links.now words.now) o p1) }
 {
-    find_cap(links, words, o, p1) != 0
+    find_cap(links, words, o, p1).is_some()
 }

@@ -15,7 +15,7 @@ pub fn target(links: &[u16], k: usize) -> usize
     requires fact_2 { Held links.now k }
     ensures { result ≡ owner_of links.now k }
 {
-    links[OWNER + k] as usize
+    usize::from(links[OWNER + k])
 }
 
 // The window.

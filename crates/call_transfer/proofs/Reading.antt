@@ -9,7 +9,7 @@ use lib.ListN.{get_or, drop, length, length-append, length-drop, get_or-append}
 use lib.Seq.{get_or-drop, get_or-append-add, ext_get_or}
 use Rattle.rules.specs.Calls.{lies_in}
 use Rattle.layout.specs.Rows.{size_of, first_block_of, owner_of}
-use Rattle.call_steps.specs.declared.request.Reply.{Reply}
+use Rattle.call_steps.specs.Request.{Reply}
 use Rattle.call_steps.specs.Run.{over, handed_over, overlay, window_in}
 use Rattle.call_steps.specs.Replies.{HandsOver, Fills}
 use Rattle.call_steps.proofs.Meeting.{stopped, goes_on}

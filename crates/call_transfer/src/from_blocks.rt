@@ -8,10 +8,11 @@ use crate::part::part_of;
 use crate::window::{first_block, in_window};
 use call_blocks::chain::{block_at, next_block};
 use call_steps::copy::copy;
-use call_steps::request::Reply;
+use call_steps::request::{Given, Reply};
 use layout::DATA;
-use values::code::OUTSIDE_WINDOW;
 use values::limit::BLOCK_SIZE;
+use values::refusal::Refusal;
+use values::window::Window;
 
 // n bytes from start on, of the object whose first block is head, to the buffer's front.
 fn copy_out(bytes: &[u8], links: &[u16], buffer: &mut [u8], head: usize, start: usize, n: usize)
@@ -22,6 +23,8 @@ fn copy_out(bytes: &[u8], links: &[u16], buffer: &mut [u8], head: usize, start: 
 {
     let mut block = block_at(links, head, start / BLOCK_SIZE);
     let mut i: usize = 0;
+    // kept: a turn goes on by the part that it copied, from any byte of a block to at most its end; chunks would need the
+    // first part apart from the rest, with a second copy
     while i < n {
         let p = start + i;
         let m = part_of(p, n - i);
@@ -32,31 +35,25 @@ fn copy_out(bytes: &[u8], links: &[u16], buffer: &mut [u8], head: usize, start: 
     }
 }
 
-// The bytes start to end of the object that capability k is for.
+// The bytes in the range, of the object that capability k is for.
 pub fn read(
     bytes: &[u8],
     links: &[u16],
     words: &[u32],
     buffer: &mut [u8],
     k: usize,
-    start: u32,
-    end: u32,
+    range: Window,
 ) -> Reply
-    requires { ReadAsks bytes.now links.now words.now buffer.old k start end }
+    requires { ReadAsks bytes.now links.now words.now buffer.old k range.start range.end }
     ensures { Fills result bytes.now links.now words.now buffer.old
-        buffer.new (read_run bytes.now links.now words.now k start end) }
+        buffer.new (read_run bytes.now links.now words.now k range.start range.end) }
 {
-    if in_window(words, k, start, end) {
-        let head = first_block(links, k);
-        copy_out(
-            bytes,
-            links,
-            buffer,
-            head,
-            start as usize,
-            (end - start) as usize,
-        );
-        return Reply::hands_over(0, end - start);
+    if !in_window(words, k, range) {
+        return Err(Refusal::OutsideWindow);
     }
-    Reply::refused(OUTSIDE_WINDOW)
+    let head = first_block(links, k);
+    let start = range.start as usize;
+    let count = range.end - range.start;
+    copy_out(bytes, links, buffer, head, start, count as usize);
+    Ok(Given::hands_over(0, count))
 }

@@ -9,8 +9,5 @@ pub(crate) fn part_of(p: usize, n: usize) -> usize
     ensures { result ≡ min n (Limit.block - p % Limit.block) }
 {
     let left = BLOCK_SIZE - p % BLOCK_SIZE;
-    if n < left {
-        return n;
-    }
-    left
+    n.min(left)
 }

@@ -8,10 +8,11 @@ use crate::part::part_of;
 use crate::window::{first_block, in_window};
 use call_blocks::chain::{block_at, next_block};
 use call_steps::copy::copy;
-use call_steps::request::Reply;
+use call_steps::request::{Given, Reply};
 use layout::DATA;
-use values::code::OUTSIDE_WINDOW;
 use values::limit::BLOCK_SIZE;
+use values::refusal::Refusal;
+use values::window::Window;
 
 // The text to the bytes from start on of the object whose first block is head.
 fn copy_in(bytes: &mut [u8], links: &[u16], text: &[u8], head: usize, start: usize)
@@ -21,6 +22,7 @@ fn copy_in(bytes: &mut [u8], links: &[u16], text: &[u8], head: usize, start: usi
 {
     let mut block = block_at(links, head, start / BLOCK_SIZE);
     let mut i: usize = 0;
+    // kept: as in `copy_out`; one loop for both would be lent a closure that writes, and be told by it what it wrote
     while i < text.len() {
         let p = start + i;
         let m = part_of(p, text.len() - i);
@@ -31,24 +33,23 @@ fn copy_in(bytes: &mut [u8], links: &[u16], text: &[u8], head: usize, start: usi
     }
 }
 
-// The bytes start to end of the object that capability k is for become the text.
+// The bytes in the range, of the object that capability k is for, become the text.
 pub fn write(
     bytes: &mut [u8],
     links: &[u16],
     words: &[u32],
     text: &[u8],
     k: usize,
-    start: u32,
-    end: u32,
+    range: Window,
 ) -> Reply
-    requires { WriteAsks bytes.old links.now words.now text.now k start end }
+    requires { WriteAsks bytes.old links.now words.now text.now k range.start range.end }
     ensures { Replies result bytes.new links.now words.now
-        (write_run bytes.old links.now words.now k start end text.now) }
+        (write_run bytes.old links.now words.now k range.start range.end text.now) }
 {
-    if in_window(words, k, start, end) {
-        let head = first_block(links, k);
-        copy_in(bytes, links, text, head, start as usize);
-        return Reply::done();
+    if !in_window(words, k, range) {
+        return Err(Refusal::OutsideWindow);
     }
-    Reply::refused(OUTSIDE_WINDOW)
+    let head = first_block(links, k);
+    copy_in(bytes, links, text, head, range.start as usize);
+    Ok(Given::done())
 }

@@ -7,7 +7,7 @@ ghost use Rattle.layout.specs.Decides.{Decides};
 ghost use Rattle.layout.specs.Sizes.{LinksWords};
 ghost use Rattle.check_caps.specs.Parts.{CapMeets, Whole, InParent};
 
-use layout::rows::{link, word};
+use layout::rows::field;
 use layout::{END, LAST_DAY, OWNER, PARENT, RIGHTS, SIZE, START};
 use values::limit::{MAX_CAPS, MAX_DAY, MAX_OBJECTS, MAX_RIGHTS};
 use values::rights::Rights;
@@ -22,14 +22,9 @@ fn is_whole(links: &[u16], i: usize, o: usize, start: u32, end: u32) -> bool
     requires { length links.now ≡ Layout.LINKS }
     ensures { Decides (Whole links.now i o start end) result }
 {
-    if start != 0 {
-        return false;
-    }
-    if link(links, MAX_CAPS, LAST_DAY, i) != NO_END {
-        return false;
-    }
-    let size = link(links, MAX_OBJECTS, SIZE, o) as u32;
-    end == size
+    start == 0
+        && field(links, MAX_CAPS, LAST_DAY, i) == NO_END
+        && end == u32::from(field(links, MAX_OBJECTS, SIZE, o))
 }
 
 // The rights, the window and the last day of capability i lie in those of capability p.
@@ -37,20 +32,20 @@ fn is_within(links: &[u16], words: &[u32], i: usize, p: usize) -> bool
     requires { LinksWords links.now words.now }
     ensures { Decides (InParent links.now words.now i p) result }
 {
-    let rights = Rights(link(links, MAX_CAPS, RIGHTS, i));
-    let both = rights.both(Rights(link(links, MAX_CAPS, RIGHTS, p)));
+    let rights = Rights(field(links, MAX_CAPS, RIGHTS, i));
+    let both = rights.both(Rights(field(links, MAX_CAPS, RIGHTS, p)));
     if both.0 != rights.0 {
         return false;
     }
-    let start = word(words, MAX_CAPS, START, i);
-    if start < word(words, MAX_CAPS, START, p) {
+    let start = field(words, MAX_CAPS, START, i);
+    if start < field(words, MAX_CAPS, START, p) {
         return false;
     }
-    let end = word(words, MAX_CAPS, END, i);
-    if end > word(words, MAX_CAPS, END, p) {
+    let end = field(words, MAX_CAPS, END, i);
+    if end > field(words, MAX_CAPS, END, p) {
         return false;
     }
-    link(links, MAX_CAPS, LAST_DAY, i) <= link(links, MAX_CAPS, LAST_DAY, p)
+    field(links, MAX_CAPS, LAST_DAY, i) <= field(links, MAX_CAPS, LAST_DAY, p)
 }
 
 // The fields of slot i, if it holds a capability.
@@ -58,19 +53,19 @@ pub fn cap_fits(links: &[u16], words: &[u32], i: usize) -> bool
     requires { LinksWords links.now words.now }
     ensures { Decides (CapMeets links.now words.now i) result }
 {
-    let owner = link(links, MAX_CAPS, OWNER, i) as usize;
+    let owner = usize::from(field(links, MAX_CAPS, OWNER, i));
     if owner == 0 {
         return true;
     }
-    if link(links, MAX_CAPS, RIGHTS, i) > ALL_RIGHTS {
+    if field(links, MAX_CAPS, RIGHTS, i) > ALL_RIGHTS {
         return false;
     }
-    let start = word(words, MAX_CAPS, START, i);
-    let end = word(words, MAX_CAPS, END, i);
+    let start = field(words, MAX_CAPS, START, i);
+    let end = field(words, MAX_CAPS, END, i);
     if start > end {
         return false;
     }
-    let parent = link(links, MAX_CAPS, PARENT, i) as usize;
+    let parent = usize::from(field(links, MAX_CAPS, PARENT, i));
     if parent == 0 {
         return is_whole(links, i, owner, start, end);
     }

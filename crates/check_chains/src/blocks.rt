@@ -10,7 +10,7 @@ ghost use Rattle.check_chains.specs.Parts.{blocks_of, blocks_of_all, Checkable, 
 
 use crate::chain::{counted, walk};
 use crate::marks::full;
-use layout::{FIRST_BLOCK, FREE_BLOCKS, MASTER, NEXT_BLOCK, SIZE, slot};
+use layout::{FIRST_BLOCK, FREE_BLOCKS, MASTER, NEXT_BLOCK, SIZE};
 use values::blocks::blocks_of;
 use values::limit::{MAX_BLOCKS, MAX_OBJECTS};
 
@@ -18,7 +18,7 @@ use values::limit::{MAX_BLOCKS, MAX_OBJECTS};
 fn need(size: u16) -> usize
     ensures { result ≡ blocks size }
 {
-    blocks_of(size as u32) as usize
+    blocks_of(u32::from(size)) as usize
 }
 
 // Object o has its blocks; a free object has none.
@@ -31,7 +31,7 @@ fn one_blocks(links: &[u16], seen: &mut [u8], o: usize) -> bool
         return true;
     }
     let many = need(links[SIZE + o]);
-    let first = slot(links[FIRST_BLOCK + o]);
+    let first = usize::from(links[FIRST_BLOCK + o]);
     counted(links, NEXT_BLOCK, MAX_BLOCKS, seen, first, many)
 }
 
@@ -40,12 +40,8 @@ fn all_blocks(links: &[u16], seen: &mut [u8]) -> bool
     requires { Checkable links.now seen.old }
     ensures { Marking (blocks_of_all links.now Limit.objects) seen.old seen.new result }
 {
-    let mut o: usize = MAX_OBJECTS;
-    while 0 < o {
-        let ok = one_blocks(links, seen, o);
-        if ok {
-            o -= 1;
-        } else {
+    for o in (1..=MAX_OBJECTS).rev() {
+        if !one_blocks(links, seen, o) {
             return false;
         }
     }
@@ -58,12 +54,9 @@ pub fn check_blocks(links: &[u16]) -> bool
     ensures { Decides (Blocks links.now) result }
 {
     let mut seen = [0u8; MAX_BLOCKS + 1];
-    let ok = all_blocks(links, &mut seen);
-    if ok {
-        let head = slot(links[FREE_BLOCKS]);
-        let good = walk(links, NEXT_BLOCK, MAX_BLOCKS, &mut seen, head);
-        if good { full(&seen, MAX_BLOCKS) } else { false }
-    } else {
-        false
+    let head = usize::from(links[FREE_BLOCKS]);
+    if !all_blocks(links, &mut seen) {
+        return false;
     }
+    walk(links, NEXT_BLOCK, MAX_BLOCKS, &mut seen, head) && full(&seen, MAX_BLOCKS)
 }

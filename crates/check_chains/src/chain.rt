@@ -3,7 +3,6 @@ ghost use Rattle.check_chains.specs.Marking.{Marking, RowFits, BlankRows};
 ghost use Rattle.check_chains.specs.Parts.{chain_in, free_chain_in, Any, Long};
 
 use crate::marks::free_marked;
-use layout::slot;
 
 // There is a chain from head on, by the n links from off on.
 pub(crate) fn walk(links: &[u16], off: usize, n: usize, seen: &mut [u8], head: usize) -> bool
@@ -20,7 +19,7 @@ pub(crate) fn walk(links: &[u16], off: usize, n: usize, seen: &mut [u8], head: u
             return false;
         }
         seen[j] = 1;
-        j = slot(links[off + j]);
+        j = usize::from(links[off + j]);
     }
     true
 }
@@ -52,7 +51,7 @@ pub(crate) fn counted(
             return false;
         }
         seen[j] = 1;
-        j = slot(links[off + j]);
+        j = usize::from(links[off + j]);
         left -= 1;
     }
     left == 0
@@ -71,10 +70,5 @@ pub fn walk_free(
     ensures { Marking (free_chain_in n off row links.now head)
         seen.old seen.new result }
 {
-    let ok = walk(links, off, n, seen, head);
-    if ok {
-        free_marked(links, row, n, seen)
-    } else {
-        false
-    }
+    walk(links, off, n, seen, head) && free_marked(links, row, n, seen)
 }

@@ -11,11 +11,8 @@ pub fn full(seen: &[u8], n: usize) -> bool
     ensures { Decides (Full n seen.now) result }
 {
     let mut ok = true;
-    let mut k = n;
-    while 0 < k {
-        let mark = seen[k];
-        ok = ok & (mark != 0);
-        k -= 1;
+    for k in (1..=n).rev() {
+        ok &= seen[k] != 0;
     }
     ok
 }
@@ -26,12 +23,8 @@ pub(crate) fn free_marked(links: &[u16], off: usize, n: usize, seen: &[u8]) -> b
     ensures { Decides (FreeMarked n (field n off links.now) seen.now) result }
 {
     let mut ok = true;
-    let mut i = n;
-    while 0 < i {
-        let mark = seen[i];
-        let cell = links[off + i];
-        ok = ok & ((mark == 0) != (cell == 0));
-        i -= 1;
+    for i in (1..=n).rev() {
+        ok &= (seen[i] == 0) != (links[off + i] == 0);
     }
     ok
 }

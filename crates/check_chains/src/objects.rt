@@ -6,7 +6,7 @@ ghost use Rattle.layout.specs.Decides.{Decides};
 
 use crate::chain::{walk, walk_free};
 use crate::marks::full;
-use layout::{FREE_OBJECTS, MASTER, NEXT_OBJECT, OBJECTS, slot};
+use layout::{FREE_OBJECTS, MASTER, NEXT_OBJECT, OBJECTS};
 use values::limit::MAX_OBJECTS;
 
 // Each object is in one of the two chains, once: in the first if it has a master, and else in the free one.
@@ -15,17 +15,10 @@ pub fn check_objects(links: &[u16]) -> bool
     ensures { Decides (Objects links.now) result }
 {
     let mut seen = [0u8; MAX_OBJECTS + 1];
-    let free = slot(links[FREE_OBJECTS]);
-    let ok = walk_free(links, NEXT_OBJECT, MASTER, MAX_OBJECTS, &mut seen, free);
-    if ok {
-        let head = slot(links[OBJECTS]);
-        let good = walk(links, NEXT_OBJECT, MAX_OBJECTS, &mut seen, head);
-        if good {
-            full(&seen, MAX_OBJECTS)
-        } else {
-            false
-        }
-    } else {
-        false
+    let free = usize::from(links[FREE_OBJECTS]);
+    let head = usize::from(links[OBJECTS]);
+    if !walk_free(links, NEXT_OBJECT, MASTER, MAX_OBJECTS, &mut seen, free) {
+        return false;
     }
+    walk(links, NEXT_OBJECT, MAX_OBJECTS, &mut seen, head) && full(&seen, MAX_OBJECTS)
 }

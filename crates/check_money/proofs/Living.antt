@@ -60,15 +60,16 @@ module _ (b l w : List ℕ) (i : ℕ) where
 
 -- ---- the money total, from its four parts
 
-module _ (b l w : List ℕ) (c m x : ℕ)
+module _ (b l w : List ℕ) (c m x h : ℕ)
     (cash-is : c ≡ all_cash (view b l w))
     (masters-are : m ≡ all_masters (view b l w))
-    (boxes-are : x ≡ all_boxes (view b l w)) where
-  total-is : c + m + x + get_or w Layout.HOUSE 0 ≡ money_in (view b l w)
+    (boxes-are : x ≡ all_boxes (view b l w))
+    (house-is : h ≡ get_or w Layout.HOUSE 0) where
+  total-is : c + m + x + h ≡ money_in (view b l w)
   unfolding money_in view
-  total-is = rw (cash-is, masters-are, boxes-are)
+  total-is = rw (cash-is, masters-are, boxes-are, house-is)
 
-  pub total-decided : Decides (TotalFits b l w) (leb (c + m + x + get_or w Layout.HOUSE 0) 4294967295)
+  pub total-decided : Decides (TotalFits b l w) (leb (c + m + x + h) 4294967295)
   total-decided = rw total-is (at_most (money_in (view b l w)) 4294967295)
 
 -- ---- a loop that adds up the masters' moneywords

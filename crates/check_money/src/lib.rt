@@ -11,7 +11,7 @@ ghost use Rattle.layout.specs.Sizes.{LinksWords};
 ghost use Rattle.check_money.specs.Amount.{CashIs, MastersAre, BoxIs, BoxesAre, master_money};
 
 use layout::process::{is_process, sums_from};
-use layout::rows::{byte, link, word};
+use layout::rows::field;
 use layout::{CASH, COUNT, HOUSE, MONEY, OWNER, PARENT};
 use values::cash::Cash;
 use values::limit::{BOX_SLOTS, MAX_CAPS, MAX_OBJECTS, MAX_WORD};
@@ -22,12 +22,12 @@ const MAX_TOTAL: u64 = MAX_WORD as u64;
 
 // The cash of slot o, 0 if it holds no process.
 fn cash_at(bytes: &[u8], links: &[u16], words: &[u32], o: usize) -> Cash
-    requires fact_1 { Sized bytes.now links.now words.now }
-    requires fact_2 { o ≤ Limit.objects }
+    requires sizes { Sized bytes.now links.now words.now }
+    requires slot { o ≤ Limit.objects }
     ensures { result.0 ≡ (view bytes.now links.now words.now).cash o }
 {
     if is_process(bytes, links, o) {
-        return Cash(word(words, MAX_OBJECTS, CASH, o));
+        return Cash(field(words, MAX_OBJECTS, CASH, o));
     }
     Cash(0)
 }
@@ -37,10 +37,8 @@ pub fn all_cash(bytes: &[u8], links: &[u16], words: &[u32]) -> u64
     ensures { CashIs bytes.now links.now words.now result }
 {
     let mut total: u64 = 0;
-    let mut o: usize = MAX_OBJECTS;
-    while 0 < o {
-        total += cash_at(bytes, links, words, o).0 as u64;
-        o -= 1;
+    for o in (1..=MAX_OBJECTS).rev() {
+        total += u64::from(cash_at(bytes, links, words, o).0);
     }
     total
 }
@@ -50,27 +48,24 @@ pub fn money_at(links: &[u16], words: &[u32], i: usize) -> Moneyword
     requires { LinksWords links.now words.now }
     ensures { (b : List ℕ) → result.0 ≡ master_money (view b links.now words.now) i }
 {
-    if link(links, MAX_CAPS, OWNER, i) == 0 {
+    if field(links, MAX_CAPS, OWNER, i) == 0 {
         return Moneyword(0);
     }
-    if link(links, MAX_CAPS, PARENT, i) != 0 {
+    if field(links, MAX_CAPS, PARENT, i) != 0 {
         return Moneyword(0);
     }
-    Moneyword(word(words, MAX_CAPS, MONEY, i))
+    Moneyword(field(words, MAX_CAPS, MONEY, i))
 }
 
 // The sums in the box of slot o, 0 if it holds no process.
 fn box_at(bytes: &[u8], links: &[u16], words: &[u32], o: usize) -> u64
-    requires fact_1 { Sized bytes.now links.now words.now }
-    requires fact_2 { o ≤ Limit.objects }
+    requires sizes { Sized bytes.now links.now words.now }
+    requires slot { o ≤ Limit.objects }
     ensures { BoxIs bytes.now links.now words.now o result }
 {
     if is_process(bytes, links, o) {
-        return sums_from(
-            words,
-            byte(bytes, MAX_OBJECTS, COUNT, o) as usize,
-            o * BOX_SLOTS,
-        );
+        let count = usize::from(field(bytes, MAX_OBJECTS, COUNT, o));
+        return sums_from(words, count, o * BOX_SLOTS);
     }
     0
 }
@@ -80,22 +75,20 @@ pub fn all_boxes(bytes: &[u8], links: &[u16], words: &[u32]) -> u64
     ensures { BoxesAre bytes.now links.now words.now result }
 {
     let mut total: u64 = 0;
-    let mut o: usize = MAX_OBJECTS;
-    while 0 < o {
+    for o in (1..=MAX_OBJECTS).rev() {
         total += box_at(bytes, links, words, o);
-        o -= 1;
     }
     total
 }
 
 // The masters' part is given.
 pub fn total_fits(bytes: &[u8], links: &[u16], words: &[u32], masters: u64) -> bool
-    requires fact_1 { Sized bytes.now links.now words.now }
-    requires fact_2 { MastersAre bytes.now links.now words.now masters }
+    requires sizes { Sized bytes.now links.now words.now }
+    requires given { MastersAre bytes.now links.now words.now masters }
     ensures { Decides (TotalFits bytes.now links.now words.now) result }
 {
     let cash = all_cash(bytes, links, words);
     let boxes = all_boxes(bytes, links, words);
-    let house = words[HOUSE] as u64;
+    let house = u64::from(words[HOUSE]);
     cash + masters + boxes + house <= MAX_TOTAL
 }

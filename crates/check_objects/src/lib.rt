@@ -17,20 +17,18 @@ mod fit;
 mod names;
 
 // The pass, with a table of no slot yet.
-fn all_fit(bytes: &[u8], links: &[u16], words: &[u32], heads: &mut [u8], next: &mut [u8]) -> bool
-    requires fact_1 { Sized bytes.now links.now words.now }
-    requires fact_2 { Buckets (name_keys bytes.now links.now) heads.old next.old Limit.objects }
+fn all_fit(bytes: &[u8], links: &[u16], words: &[u32], heads: &mut [u16], next: &mut [u16]) -> bool
+    requires sizes { Sized bytes.now links.now words.now }
+    requires table { Buckets (name_keys bytes.now links.now) heads.old next.old Limit.objects }
     ensures { Decides (AllObjects bytes.now links.now words.now) result }
 {
-    let mut o: usize = MAX_OBJECTS;
-    while 0 < o {
+    for o in (1..=MAX_OBJECTS).rev() {
         if !object_fits(bytes, links, words, o) {
             return false;
         }
         if !enter(bytes, links, heads, next, o) {
             return false;
         }
-        o -= 1;
     }
     true
 }
@@ -39,7 +37,7 @@ pub fn objects_fit(bytes: &[u8], links: &[u16], words: &[u32]) -> bool
     requires { Sized bytes.now links.now words.now }
     ensures { Decides (AllObjects bytes.now links.now words.now) result }
 {
-    let mut heads = [0u8; 128];
-    let mut next = [0u8; MAX_OBJECTS + 1];
+    let mut heads = [0u16; 128];
+    let mut next = [0u16; MAX_OBJECTS + 1];
     all_fit(bytes, links, words, &mut heads, &mut next)
 }

@@ -4,10 +4,11 @@ ghost use Rattle.std.specs.Prelude.{◌≡◌, ◌≤◌, ◌<◌};
 ghost use Rattle.rules.specs.Limit;
 ghost use Rattle.layout.specs.Decides.{Decides};
 ghost use Rattle.layout.specs.Sizes.{BytesLinks};
-ghost use Rattle.check_rows.specs.Buckets.{NoneFrom, Chained, Buckets, Entered};
+ghost use Rattle.check_rows.specs.Buckets.{Buckets, Entered};
 ghost use Rattle.check_objects.specs.Names.{SameName, name_place, name_keys};
 
-use layout::rows::{byte, link};
+use check_rows::table;
+use layout::rows::field;
 use layout::{MASTER, SERIAL, VOLUME};
 use values::limit::MAX_OBJECTS;
 
@@ -15,7 +16,7 @@ use values::limit::MAX_OBJECTS;
 fn place_of(volume: u8, serial: u16) -> usize
     ensures { (result ≡ name_place volume serial) × (result < 128) }
 {
-    (serial as usize * 49471 / 512 + volume as usize * 73) % 128
+    (usize::from(serial) * 49471 / 512 + usize::from(volume) * 73) % 128
 }
 
 // Slots o and q hold objects with the same name.
@@ -23,57 +24,36 @@ fn same_name(bytes: &[u8], links: &[u16], o: usize, q: usize) -> bool
     requires { BytesLinks bytes.now links.now }
     ensures { Decides (SameName bytes.now links.now o q) result }
 {
-    if link(links, MAX_OBJECTS, SERIAL, o) != link(links, MAX_OBJECTS, SERIAL, q) {
+    if field(links, MAX_OBJECTS, SERIAL, o) != field(links, MAX_OBJECTS, SERIAL, q) {
         return false;
     }
-    if byte(bytes, MAX_OBJECTS, VOLUME, o) != byte(bytes, MAX_OBJECTS, VOLUME, q) {
+    if field(bytes, MAX_OBJECTS, VOLUME, o) != field(bytes, MAX_OBJECTS, VOLUME, q) {
         return false;
     }
-    if link(links, MAX_OBJECTS, MASTER, o) == 0 {
+    if field(links, MAX_OBJECTS, MASTER, o) == 0 {
         return false;
     }
-    link(links, MAX_OBJECTS, MASTER, q) != 0
-}
-
-// No slot in the chain from slot `head` on has the name of the object in slot o.
-fn name_is_new(bytes: &[u8], links: &[u16], next: &[u8], o: usize, head: usize) -> bool
-    requires fact_1 { BytesLinks bytes.now links.now }
-    requires fact_2 { Chained Limit.objects next.now o head }
-    ensures { Decides (NoneFrom (SameName bytes.now links.now)
-        next.now o head) result }
-{
-    let mut q = head;
-    while 0 < q {
-        if same_name(bytes, links, o, q) {
-            return false;
-        }
-        q = next[q] as usize;
-    }
-    true
+    field(links, MAX_OBJECTS, MASTER, q) != 0
 }
 
 // No slot above o has the name of the object in slot o, by the table of the objects above o, which gets it too.
 pub(crate) fn enter(
     bytes: &[u8],
     links: &[u16],
-    heads: &mut [u8],
-    next: &mut [u8],
+    heads: &mut [u16],
+    next: &mut [u16],
     o: usize,
 ) -> bool
-    requires fact_1 { BytesLinks bytes.now links.now }
-    requires fact_2 { Buckets (name_keys bytes.now links.now) heads.old next.old o }
-    requires fact_3 { (1 ≤ o) × (o ≤ Limit.objects) }
+    requires sizes { BytesLinks bytes.now links.now }
+    requires table { Buckets (name_keys bytes.now links.now) heads.old next.old o }
+    requires slot { (1 ≤ o) × (o ≤ Limit.objects) }
     ensures { Entered (name_keys bytes.now links.now)
         (SameName bytes.now links.now) heads.new next.new o result }
 {
-    if link(links, MAX_OBJECTS, MASTER, o) == 0 {
+    if field(links, MAX_OBJECTS, MASTER, o) == 0 {
         return true;
     }
-    let serial = link(links, MAX_OBJECTS, SERIAL, o);
-    let at = place_of(byte(bytes, MAX_OBJECTS, VOLUME, o), serial);
-    let head = heads[at];
-    let new = name_is_new(bytes, links, next, o, head as usize);
-    heads[at] = o as u8;
-    next[o] = head;
-    new
+    let serial = field(links, MAX_OBJECTS, SERIAL, o);
+    let at = place_of(field(bytes, MAX_OBJECTS, VOLUME, o), serial);
+    table::enter(heads, next, at, o, |q| same_name(bytes, links, o, q))
 }

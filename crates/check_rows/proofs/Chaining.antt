@@ -2,17 +2,17 @@
 use Prim.Native.Nat.{ℕ, zero, suc, ◌+◌, ◌-◌, ◌≤◌, ◌<◌}
 use mathlib.Core.Path.{◌≡◌, refl, sym, ◌∙◌}
 use mathlib.Core.Logic.{◌≢◌}
-use mathlib.Core.Bool.{Bool, true, false}
+use mathlib.Core.Bool.{Bool, true, false, false≢true}
 use mathlib.Core.List.{List}
-use lib.ListN.{get_or, set, length-set, replicate, length-replicate}
+use lib.ListN.{length, get_or, set, length-set, replicate, length-replicate}
 use lib.Seq.{get_or-set_same, get_or-set_other}
 use native.Mathlib.Decide.{ℕ_discrete}
 use native.Mathlib.Omega.{arith}
 use Rattle.layout.specs.Decides.{Decides}
-use Rattle.layout.proofs.Deciding.{yes-it, no-it, as-well}
+use Rattle.layout.proofs.Deciding.{yes-it, no-it, as-well, refuted}
 use Rattle.layout.proofs.Zeros.{zeros}
 use Rattle.check_rows.specs.Distinct.{NoneAbove}
-use Rattle.check_rows.specs.Buckets.{Up, Links, links_after, InBucket, NoneFrom, Keys, Buckets, Chained}
+use Rattle.check_rows.specs.Buckets.{Up, Links, links_after, InBucket, NoneFrom, Keys, Buckets, Chained, Searched}
 
 -- ---- a chain
 
@@ -160,8 +160,11 @@ module _ {K : Keys} {heads next : List ℕ} {i : ℕ} (t : Buckets K heads next 
 
   -- ---- what the chain at the place of slot i says of the slots above it
 
-  pub chain-starts : (at : ℕ) → Chained K.slots next i (get_or heads at 0)
-  chain-starts at = record { links = t.links; start = t.starts at }
+  pub chain-starts : (at : ℕ) → Chained (length next - 1) next i (get_or heads at 0)
+  chain-starts at = rw many (record { links = t.links; start = t.starts at })
+    where
+      many : length next - 1 ≡ K.slots
+      many = omega (arith, t.links.size)
 
   pub none_above : (same : ℕ → ℕ → Type 0) {r : Bool} (at : ℕ) → at ≡ K.place i
       → ((j : ℕ) → same i j → K.Used j × (K.place j ≡ K.place i))
@@ -181,24 +184,35 @@ module _ {K : Keys} {heads next : List ℕ} {i : ℕ} (t : Buckets K heads next 
 
 -- ---- a search along a chain: it has reached slot j, and what is left to ask from there is what was asked
 
-pub record Along (n : ℕ) (same : ℕ → ℕ → Type 0) (next : List ℕ) (i head j : ℕ) : Type 0 where
+-- the test says no at each slot of the chain from slot j on
+abbrev pub NoFrom : (ℕ → Bool → Type 0) → List ℕ → ℕ → Type 0
+NoFrom post next j = (k : ℕ) → 1 ≤ k → InBucket next j k → post k false
+
+pub record Along (n : ℕ) (post : ℕ → Bool → Type 0) (next : List ℕ) (head j : ℕ) : Type 0 where
   pub links : Links n next
-  pub up : Up n i j
-  pub on : NoneFrom same next i j → NoneFrom same next i head
-  pub back : NoneFrom same next i head → NoneFrom same next i j
+  pub up : Up n 0 j
+  pub on : NoFrom post next j → NoFrom post next head
+  pub back : (k : ℕ) → InBucket next j k → InBucket next head k
 
 -- how many slots there can be from slot j on
 pub left : ℕ → ℕ → ℕ
 left n zero = 0
 left n (suc j) = n - j
 
-pub along-start : {n : ℕ} {next : List ℕ} {i head : ℕ} (same : ℕ → ℕ → Type 0) → Chained n next i head
-    → Along n same next i head head
-along-start same c = record { links = c.links; up = c.start; on = λ h. h; back = λ h. h }
+pub along-start : {n : ℕ} {next : List ℕ} {head : ℕ} (post : ℕ → Bool → Type 0) → Chained n next 0 head
+    → Along n post next head head
+along-start post c = record { links = c.links; up = c.start; on = λ h. h; back = λ k s. s }
 
-module _ {n : ℕ} {same : ℕ → ℕ → Type 0} {next : List ℕ} {i head j : ℕ} (now : Along n same next i head j) where
-  pub along-end : j ≤ 0 → Decides (NoneFrom same next i head) true
-  along-end z = yes-it (now.on (λ k low s _. none k low s))
+-- a chain that leads up from slot i is one of slots
+pub from-any : {n : ℕ} {next : List ℕ} {i head : ℕ} → Chained n next i head → Chained n next 0 head
+from-any c = record { links = c.links; start = λ ne. let a = c.start ne in (omega (arith, a.0), a.1) }
+
+module _ {n : ℕ} {post : ℕ → Bool → Type 0} {next : List ℕ} {head j : ℕ} (now : Along n post next head j) where
+  pub along-end : j ≤ 0 → Searched post next head true
+  along-end z = record {
+    none = λ _. now.on (λ k low s. absurd (none k low s));
+    some = λ e. absurd (false≢true (sym e));
+  }
     where
       none : (k : ℕ) → 1 ≤ k → InBucket next j k → ⊥
       none k low s =
@@ -209,21 +223,24 @@ module _ {n : ℕ} {same : ℕ → ℕ → Type 0} {next : List ℕ} {i head j :
     pub along-in : j ≤ n
     along-in = (now.up (λ z. omega arith)).1
 
-    pub along-found : same i j → Decides (NoneFrom same next i head) false
+    pub along-found : post j true → Searched post next head false
     unfolding links_after
-    along-found s = no-it (λ none. now.back none j some (record { links = 0; is = refl }) s)
+    along-found s = record {
+      none = λ e. absurd (false≢true e);
+      some = λ _. (j, some, now.back j (record { links = 0; is = refl }), s);
+    }
 
-    pub along-on : (same i j → ⊥) → Along n same next i head (get_or next j 0)
+    pub along-on : post j false → Along n post next head (get_or next j 0)
     unfolding links_after
-    along-on differs = record {
+    along-on says = record {
       links = now.links;
       up = up-on now.links j now.up;
       on = λ none. now.on (λ k low s. go none k low s.links s.is);
-      back = λ none k low s. now.back none k low (stands_on j k s);
+      back = λ k s. now.back k (stands_on j k s);
     }
       where
-        go : NoneFrom same next i (get_or next j 0) → (k : ℕ) → 1 ≤ k → (d : ℕ) → links_after next d j ≡ k → same i k → ⊥
-        go none k low zero e = rw (← e) differs
+        go : NoFrom post next (get_or next j 0) → (k : ℕ) → 1 ≤ k → (d : ℕ) → links_after next d j ≡ k → post k false
+        go none k low zero e = rw (← e) says
         go none k low (suc d) e = none k low (record { links = d; is = e })
 
     pub left-falls : left n (get_or next j 0) < left n j
@@ -234,3 +251,10 @@ module _ {n : ℕ} {same : ℕ → ℕ → Type 0} {next : List ℕ} {i head j :
         go m zero up low high = absurd (omega arith)
         go zero (suc j) up low high = omega arith
         go (suc m) (suc j) up low high = let a = up (λ z. omega arith) in omega (arith, a.0, a.1)
+
+-- where the test says whether a slot is the same as slot i, the search says whether none is
+pub searched : {post : ℕ → Bool → Type 0} (same : ℕ → ℕ → Type 0) (i : ℕ) {next : List ℕ} {head : ℕ} (r : Bool)
+    → ((k : ℕ) (a : Bool) → post k a → Decides (same i k) a) → Searched post next head r
+    → Decides (NoneFrom same next i head) r
+searched same i true f s = yes-it (λ k low st. refuted (f k false (s.none refl k low st)) refl)
+searched same i false f s = let t = s.some refl in no-it (λ none. none t.0 t.1 t.2 ((f t.0 true t.3).sound refl))

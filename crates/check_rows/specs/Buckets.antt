@@ -1,7 +1,7 @@
 -- A hash table of slots, by chaining: `heads` has for each place the slot that was entered there last, and `next` for
 -- each slot the one that was entered at the same place before it. Slots are entered from the last down, so every link
 -- leads up.
-use Rattle.std.specs.Prelude.{ℕ, zero, suc, ◌+◌, ◌-◌, ◌≤◌, ◌<◌, ◌≡◌, ◌≢◌, Bool, List, get_or, length}
+use Rattle.std.specs.Prelude.{ℕ, zero, suc, ◌+◌, ◌-◌, ◌≤◌, ◌<◌, ◌≡◌, ◌≢◌, Bool, true, false, List, get_or, length}
 use Rattle.layout.specs.Decides.{Decides}
 use Rattle.check_rows.specs.Distinct.{NoneAbove}
 
@@ -52,3 +52,8 @@ pub record Entered (K : Keys) (same : ℕ → ℕ → Type 0) (heads next : List
 pub record Chained (n : ℕ) (next : List ℕ) (i head : ℕ) : Type 0 where
   pub links : Links n next
   pub start : Up n i head
+
+-- r says whether no slot in the chain from `head` on passes a test, of which post says what it answers
+pub record Searched (post : ℕ → Bool → Type 0) (next : List ℕ) (head : ℕ) (r : Bool) : Type 0 where
+  pub none : r ≡ true → (k : ℕ) → 1 ≤ k → InBucket next head k → post k false
+  pub some : r ≡ false → (k : ℕ) × (1 ≤ k) × InBucket next head k × post k true

@@ -1,2 +1,5 @@
-// Laws of loops over slots, which the checks of fields share, are in specs/ and proofs/; this crate has no code.
+// What the checks of fields share: a hash table that tells slots apart; and laws of loops over slots, in specs/ and
+// proofs/.
 #![tactic(auto)]
+
+pub mod table;

@@ -3,16 +3,16 @@ use Prim.Native.Nat.{ℕ, ◌+◌, ◌-◌, ◌≤◌, ◌<◌}
 use mathlib.Core.Path.{◌≡◌, sym, ◌∙◌}
 use mathlib.Core.Logic.{◌≢◌}
 use mathlib.Core.List.{List}
-use lib.ListN.{get_or, set, length, length-set}
-use lib.Seq.{get_or-set_same, get_or-set_other}
+use lib.ListN.{get_or, set, length, length-set, take, length-take}
+use lib.Seq.{get_or-set_same, get_or-set_other, get_or-take}
 use native.Mathlib.Decide.{ℕ_discrete}
 use native.Mathlib.Omega.{arith}
 use Rattle.layout.specs.Rows.{owner_of}
 use Rattle.check_scan.specs.Slots.{OneOfEntries, Slots, NextPlace}
 
-pub no-entry : (l list : List ℕ) → length list ≡ 513 → Slots l list 0 0 512 512
-no-entry l list e = record {
-  size = e;
+pub no-entry : (l list : List ℕ) → Slots l list 0 0 512 512
+no-entry l list = record {
+  size = omega arith;
   room = omega arith;
   cover = λ i above upto live. absurd (omega arith);
   falls = λ m q a b c. absurd (omega arith);
@@ -22,12 +22,12 @@ no-entry l list e = record {
 
 -- ---- slot j is written at the end of the list, and stays there if it lives
 
-module _ (l list : List ℕ) (n j : ℕ) (s : Slots l list 0 n j 512) (up : 1 ≤ j) where
+module _ (l list : List ℕ) (n j : ℕ) (s : Slots l list 0 n j 512) (up : 1 ≤ j) (more : n < length list) where
   same-below : (m : ℕ) → m < n → get_or (set list n j) m 0 ≡ get_or list m 0
   same-below m h = get_or-set_other list n m j 0 (λ e. omega arith)
 
   at-end : get_or (set list n j) n 0 ≡ j
-  at-end = get_or-set_same list n j 0 (omega (arith, s.size, s.room))
+  at-end = get_or-set_same list n j 0 more
 
   old-entry : (r i : ℕ) → n ≤ r → j < i → i ≤ 512 → owner_of l i ≢ 0 → OneOfEntries (set list n j) 0 r i
   old-entry r i more above upto live =
@@ -41,7 +41,7 @@ module _ (l list : List ℕ) (n j : ℕ) (s : Slots l list 0 n j 512) (up : 1 �
 
   passed_over : owner_of l j ≡ 0 → Slots l (set list n j) 0 n (j - 1) 512
   passed_over z = record {
-    size = length-set list n j ∙ s.size;
+    size = omega (arith, length-set list n j);
     room = omega (arith, s.room);
     cover = cover;
     falls = λ m q a b c.
@@ -59,7 +59,7 @@ module _ (l list : List ℕ) (n j : ℕ) (s : Slots l list 0 n j 512) (up : 1 �
 
   taken_in : Slots l (set list n j) 0 (n + 1) (j - 1) 512
   taken_in = record {
-    size = length-set list n j ∙ s.size;
+    size = omega (arith, length-set list n j);
     room = omega (arith, s.room);
     cover = cover;
     falls = falls;
@@ -105,6 +105,20 @@ module _ (l list : List ℕ) (n j : ℕ) (s : Slots l list 0 n j 512) (up : 1 �
 
 pub all_listed : (l list : List ℕ) (n j : ℕ) → j ≤ 0 → Slots l list 0 n j 512 → Slots l list 0 n 0 512
 all_listed l list n j z s = let e : j ≡ 0 = omega arith in rw e at s
+
+-- the entries alone
+pub listed : (l list : List ℕ) (n : ℕ) → Slots l list 0 n 0 512 → Slots l (take n list) 0 (length (take n list)) 0 512
+listed l list n s = let e : length (take n list) ≡ n = omega (arith, s.size, length-take n list) in rw e (record {
+  size = omega (arith, s.size, length-take n list);
+  room = s.room;
+  cover = λ i above upto lives.
+      let e = s.cover i above upto lives in
+      record { place = e.place; from = e.from; before = e.before; is = get_or-take n list e.place 0 e.before ∙ e.is };
+  falls = λ m q a b c.
+      omega (arith, get_or-take n list m 0 (omega arith), get_or-take n list q 0 c, s.falls m q a b c);
+  low = λ m a b. omega (arith, get_or-take n list m 0 b, s.low m a b);
+  high = λ m a b. omega (arith, get_or-take n list m 0 b, s.high m a b);
+})
 
 -- ---- the entries from k on are the living slots up to p
 

@@ -1,20 +1,19 @@
 -- What the pass over the capabilities knows of the slots that it passed, and what that says at its end.
 use Prim.Native.Nat.{ℕ, zero, suc, ◌+◌, ◌-◌, ◌≤◌, ◌<◌}
 use mathlib.Core.Path.{◌≡◌, refl, sym}
-use mathlib.Core.Bool.{true, false, false≢true}
+use Rattle.std.proofs.Common.{Some, None}
 use mathlib.Core.List.{List, []}
 use lib.ListN.{get_or}
 use native.Mathlib.Omega.{arith}
 use Rattle.layout.specs.Layout as Layout
 use Rattle.layout.specs.Rows.{owner_of}
 use Rattle.layout.specs.View.{view}
-use Rattle.layout.proofs.Deciding.{yes-it, no-it}
 use Rattle.check_caps.specs.Parts.{CapMeets}
 use Rattle.check_passwords.specs.Passwords.{SamePassword, passwords}
 use Rattle.check_rows.specs.Buckets.{Buckets}
 use Rattle.check_rows.specs.Distinct.{NoneAbove}
 use Rattle.check_money.specs.Amount.{master_money}
-use Rattle.check_scan.specs.Scanned.{AllCaps, Scanned}
+use Rattle.check_scan.specs.Scanned.{Scanned}
 use Rattle.check_rows.proofs.Counting.{Above, above_more, used-past, all-used}
 use Rattle.check_passwords.proofs.Distinct.{by-password}
 use Rattle.check_rows.proofs.Unique.{none-past, all-differ, none-same}
@@ -66,25 +65,22 @@ module _ (l w : List ℕ) where
       (λ b. sym (money-free b l w i z))
       (omega arith))
 
-  pub passed-all : (heads next : List ℕ) (k total : ℕ) → k ≤ 0 → Passed l w heads next k total → Scanned l w true total
-  passed-all heads next k total z p = record {
-    answer = yes-it (record {
+  pub passed-all : (heads next : List ℕ) (k total : ℕ) → k ≤ 0 → Passed l w heads next k total → Scanned l w (Some total)
+  passed-all heads next k total z p = (
+    record {
       fit = all-used 512 Layout.OWNER _ _ _ z p.fit;
       passwords = passwords-unique l w (all-differ (by-password l w) k z p.differ);
-    });
-    money = λ e b. masters-added b l w k total z (p.money b);
-  }
-
-  refusal : (AllCaps l w → ⊥) → Scanned l w false 0
-  refusal n = record { answer = no-it n; money = λ e. absurd (false≢true e) }
+    },
+    λ b. masters-added b l w k total z (p.money b),
+  )
 
   -- a slot does not fit
-  pub misfit : (i : ℕ) → (CapMeets l w i → ⊥) → Scanned l w false 0
-  misfit i n = refusal (λ h. n (h.fit i))
+  pub misfit : (i : ℕ) → (CapMeets l w i → ⊥) → Scanned l w None
+  misfit i n h = n (h.fit i)
 
   -- a slot has the p1 of another
-  pub doubled : (i : ℕ) → (NoneAbove (SamePassword l w) i → ⊥) → Scanned l w false 0
-  doubled i n = refusal (λ h. n (none-same (passwords-differ l w h.passwords) i))
+  pub doubled : (i : ℕ) → (NoneAbove (SamePassword l w) i → ⊥) → Scanned l w None
+  doubled i n h = n (none-same (passwords-differ l w h.passwords) i)
 
 -- the slots above `place` are passed, and those that live up to it are listed from k on
 pub record Reached (l w heads next list : List ℕ) (k n total : ℕ) : Type 0 where

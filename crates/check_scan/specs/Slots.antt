@@ -12,7 +12,7 @@ pub record OneOfEntries (list : List ℕ) (k n i : ℕ) : Type 0 where
 
 -- the entries k to n - 1 are the living slots above j and up to p, in falling order
 pub record Slots (l list : List ℕ) (k n j p : ℕ) : Type 0 where
-  pub size : length list ≡ Limit.caps + 1
+  pub size : n ≤ length list
   pub room : n + j ≤ Limit.caps
   pub cover : (i : ℕ) → j < i → i ≤ p → owner_of l i ≢ 0 → OneOfEntries list k n i
   pub falls : (m q : ℕ) → k ≤ m → m < q → q < n → get_or list q 0 < get_or list m 0

@@ -16,22 +16,15 @@ use check_caps::cap_fits;
 use check_money::money_at;
 use check_passwords::enter;
 use layout::OWNER;
-use layout::rows::link;
+use layout::rows::field;
 use values::limit::MAX_CAPS;
-
-// Whether all capabilities fit and no two of an object have the same p1; if so, the moneywords of the masters.
-#[derive(Clone, Copy)]
-pub struct Scan {
-    pub fits: bool,
-    pub masters: u64,
-}
 
 // The next free place of the list, after slot i was written at place n.
 fn next_place(links: &[u16], i: usize, n: usize) -> usize
     requires { (length links.now ≡ Layout.LINKS) × (n ≤ Limit.caps) }
     ensures { NextPlace links.now i n result }
 {
-    if link(links, MAX_CAPS, OWNER, i) == 0 {
+    if field(links, MAX_CAPS, OWNER, i) == 0 {
         return n;
     }
     n + 1
@@ -39,66 +32,54 @@ fn next_place(links: &[u16], i: usize, n: usize) -> usize
 
 // Lists the living slots from the last down, and says how many.
 fn list_living(links: &[u16], list: &mut [u16]) -> usize
-    requires fact_1 { length links.now ≡ Layout.LINKS }
-    requires fact_2 { length list.old ≡ Limit.caps + 1 }
+    requires sizes { length links.now ≡ Layout.LINKS }
+    requires room { length list.old ≡ Limit.caps + 1 }
     ensures { Slots links.now list.new 0 result 0 Limit.caps }
 {
     let mut n: usize = 0;
-    let mut i: usize = MAX_CAPS;
-    while 0 < i {
+    for i in (1..=MAX_CAPS).rev() {
+        // kept: a slot is 512 at the most; `try_from` would give `list_living` a refusal that it cannot have.
         list[n] = i as u16;
         n = next_place(links, i, n);
-        i -= 1;
     }
     n
 }
 
-// The pass over the n slots of the list, with a table of no slot yet.
+// The pass over the living slots, with a table of no slot yet.
 fn scan_all(
     links: &[u16],
     words: &[u32],
     heads: &mut [u16],
     next: &mut [u16],
-    list: &[u16],
-    n: usize,
-) -> Scan
-    requires fact_1 { LinksWords links.now words.now }
-    requires fact_2 { Buckets (passwords links.now words.now) heads.old next.old Limit.caps }
-    requires fact_3 { Slots links.now list.now 0 n 0 Limit.caps }
-    ensures { Scanned links.now words.now result.fits result.masters }
+    living: &[u16],
+) -> Option<u64>
+    requires sizes { LinksWords links.now words.now }
+    requires table { Buckets (passwords links.now words.now) heads.old next.old Limit.caps }
+    requires listed { Slots links.now living.now 0 (length living.now) 0 Limit.caps }
+    ensures { Scanned links.now words.now result }
 {
     let mut total: u64 = 0;
-    let mut k: usize = 0;
-    while k < n {
-        let i = list[k] as usize;
+    for entry in living {
+        let i = usize::from(*entry);
         if !cap_fits(links, words, i) {
-            return Scan {
-                fits: false,
-                masters: 0,
-            };
+            return None;
         }
         if !enter(links, words, heads, next, i) {
-            return Scan {
-                fits: false,
-                masters: 0,
-            };
+            return None;
         }
-        total += money_at(links, words, i).0 as u64;
-        k += 1;
+        total += u64::from(money_at(links, words, i).0);
     }
-    Scan {
-        fits: true,
-        masters: total,
-    }
+    Some(total)
 }
 
-pub fn scan_caps(links: &[u16], words: &[u32]) -> Scan
+// The masters' moneywords, if all capabilities fit and no two of an object have the same p1.
+pub fn scan_caps(links: &[u16], words: &[u32]) -> Option<u64>
     requires { LinksWords links.now words.now }
-    ensures { Scanned links.now words.now result.fits result.masters }
+    ensures { Scanned links.now words.now result }
 {
     let mut list = [0u16; MAX_CAPS + 1];
     let n = list_living(links, &mut list);
     let mut heads = [0u16; 1024];
     let mut next = [0u16; MAX_CAPS + 1];
-    scan_all(links, words, &mut heads, &mut next, &list, n)
+    scan_all(links, words, &mut heads, &mut next, &list[..n])
 }

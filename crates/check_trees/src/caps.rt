@@ -11,7 +11,7 @@ ghost use Rattle.check_trees.specs.Parts.{tree_at, trees_of_all};
 use crate::sound::check_record;
 use check_chains::chain::walk_free;
 use check_chains::marks::full;
-use layout::{FREE_CAPS, MASTER, NEXT_CAP, OWNER, slot};
+use layout::{FREE_CAPS, MASTER, NEXT_CAP, OWNER};
 use values::limit::{MAX_CAPS, MAX_OBJECTS};
 
 // The last object's slot, as a link.
@@ -22,19 +22,11 @@ fn one_tree(links: &[u16], seen: &mut [u8], o: u16) -> bool
     requires { CheckableAt o links.now seen.old }
     ensures { Marking (tree_at links.now o) seen.old seen.new result }
 {
-    let i = o as usize;
-    let master = links[MASTER + i];
+    let master = links[MASTER + usize::from(o)];
     if master == 0 {
         return true;
     }
-    let ok = check_record(links, seen, o, master, 0, 0);
-    if ok {
-        let m = master as usize;
-        let next = links[NEXT_CAP + m];
-        next == 0
-    } else {
-        false
-    }
+    check_record(links, seen, o, master, 0, 0) && links[NEXT_CAP + usize::from(master)] == 0
 }
 
 // Every object has its tree.
@@ -42,12 +34,8 @@ fn all_trees(links: &[u16], seen: &mut [u8]) -> bool
     requires { Checkable links.now seen.old }
     ensures { Marking (trees_of_all links.now Limit.objects) seen.old seen.new result }
 {
-    let mut o: u16 = LAST_OBJECT;
-    while 0 < o {
-        let ok = one_tree(links, seen, o);
-        if ok {
-            o -= 1;
-        } else {
+    for o in (1..=LAST_OBJECT).rev() {
+        if !one_tree(links, seen, o) {
             return false;
         }
     }
@@ -60,12 +48,9 @@ pub(crate) fn check_caps(links: &[u16]) -> bool
     ensures { Decides (Caps links.now) result }
 {
     let mut seen = [0u8; MAX_CAPS + 1];
-    let head = slot(links[FREE_CAPS]);
-    let ok = walk_free(links, NEXT_CAP, OWNER, MAX_CAPS, &mut seen, head);
-    if ok {
-        let good = all_trees(links, &mut seen);
-        if good { full(&seen, MAX_CAPS) } else { false }
-    } else {
-        false
+    let head = usize::from(links[FREE_CAPS]);
+    if !walk_free(links, NEXT_CAP, OWNER, MAX_CAPS, &mut seen, head) {
+        return false;
     }
+    all_trees(links, &mut seen) && full(&seen, MAX_CAPS)
 }

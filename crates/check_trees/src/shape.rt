@@ -13,11 +13,8 @@ pub fn check_shape(links: &[u16]) -> bool
     requires { length links.now ≡ Layout.LINKS }
     ensures { Decides (Shape links.now) result }
 {
-    let objects = check_objects(links);
-    if objects {
-        let caps = check_caps(links);
-        if caps { check_blocks(links) } else { false }
-    } else {
-        false
+    if !check_objects(links) {
+        return false;
     }
+    check_caps(links) && check_blocks(links)
 }

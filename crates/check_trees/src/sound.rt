@@ -18,23 +18,11 @@ fn agrees(links: &[u16], o: u16, j: u16, parent: u16, prev: u16) -> bool
     requires { length links.now ≡ Layout.LINKS }
     ensures { Decides (AgreeIn links.now o parent prev j) result }
 {
-    if j == 0 {
+    if j == 0 || LAST < j {
         return false;
     }
-    if LAST < j {
-        return false;
-    }
-    let i = j as usize;
-    let owner = links[OWNER + i];
-    if owner != o {
-        return false;
-    }
-    let above = links[PARENT + i];
-    if above != parent {
-        return false;
-    }
-    let back = links[PREV_CAP + i];
-    back == prev
+    let i = usize::from(j);
+    links[OWNER + i] == o && links[PARENT + i] == parent && links[PREV_CAP + i] == prev
 }
 
 // It is sound: it agrees, and so does all that is below it.
@@ -51,22 +39,20 @@ pub(crate) fn check_record(
     ensures { Marking (record_at links.now o parent prev j)
         seen.old seen.new result }
 {
-    let ok = agrees(links, o, j, parent, prev);
-    if ok {
-        let i = j as usize;
-        let mark = seen[i];
-        if mark != 0 {
-            return false;
-        }
-        seen[i] = 1;
-        let first = links[FIRST_CHILD + i];
-        if first == 0 {
-            return true;
-        }
-        check_chain(links, seen, o, first, j, 0)
-    } else {
-        false
+    if !agrees(links, o, j, parent, prev) {
+        return false;
     }
+    let i = usize::from(j);
+    let mark = seen[i];
+    if mark != 0 {
+        return false;
+    }
+    seen[i] = 1;
+    let first = links[FIRST_CHILD + i];
+    if first == 0 {
+        return true;
+    }
+    check_chain(links, seen, o, first, j, 0)
 }
 
 // The records from head on are sound, below `parent`, and the first is after `prev`.
@@ -79,14 +65,11 @@ fn check_chain(links: &[u16], seen: &mut [u8], o: u16, head: u16, parent: u16, p
     let mut j = head;
     let mut back = prev;
     while 0 < j {
-        let ok = check_record(links, seen, o, j, parent, back);
-        if ok {
-            let i = j as usize;
-            back = j;
-            j = links[NEXT_CAP + i];
-        } else {
+        if !check_record(links, seen, o, j, parent, back) {
             return false;
         }
+        back = j;
+        j = links[NEXT_CAP + usize::from(j)];
     }
     true
 }

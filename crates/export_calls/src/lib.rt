@@ -5,9 +5,9 @@ ghost use Rattle.layout.specs.WellFormed.{WellFormed};
 ghost use Rattle.kernel_step.specs.Slices.{slices};
 ghost use Rattle.export_calls.specs.Exported.{Exported};
 
-use export_numbers::call::{REPLY, REQUEST, put_reply, request_of};
-use export_numbers::numbers::{fits, unfit};
-use values::code::OUT_OF_RANGE;
+use call_steps::request::Request;
+use export_numbers::numbers::{asked, tell, unfit};
+use values::refusal::Refusal;
 
 // Makes the call that the request's numbers say, and writes the reply's; where either slice has another length, nothing.
 pub fn call_by_numbers(
@@ -24,16 +24,16 @@ pub fn call_by_numbers(
         (slices bytes.old links.old words.old buffer.old scratch.old)
         (slices bytes.new links.new words.new buffer.new scratch.new) }
 {
-    if fits(request.len(), REQUEST, reply.len(), REPLY) {
-        let asked = request_of(request);
-        let answer = kernel_call::call(bytes, links, words, text, buffer, scratch, asked);
-        put_reply(answer, reply);
-        return answer.code;
-    }
-    unfit(bytes, links, words)
+    let Some(call) = asked::<Request>(request, reply) else {
+        return unfit(bytes, links, words);
+    };
+    let answer = kernel_call::call(bytes, links, words, text, buffer, scratch, call);
+    tell(answer, reply)
 }
 
 // The same on a well-formed store, which is not checked.
+// kept: beside `call_by_numbers` it has a `requires`, and no 1 where the lengths do not fit; with the step as a parameter,
+// the `ensures` of both would be read off what that parameter ensures.
 pub fn step_by_numbers(
     bytes: &mut [u8],
     links: &mut [u16],
@@ -49,11 +49,9 @@ pub fn step_by_numbers(
         (slices bytes.old links.old words.old buffer.old scratch.old)
         (slices bytes.new links.new words.new buffer.new scratch.new) }
 {
-    if fits(request.len(), REQUEST, reply.len(), REPLY) {
-        let req = request_of(request);
-        let r = kernel_step::step(bytes, links, words, text, buffer, scratch, req);
-        put_reply(r, reply);
-        return r.code;
-    }
-    OUT_OF_RANGE
+    let Some(call) = asked::<Request>(request, reply) else {
+        return u32::from(Refusal::OutOfRange);
+    };
+    let stepped = kernel_step::step(bytes, links, words, text, buffer, scratch, call);
+    tell(stepped, reply)
 }

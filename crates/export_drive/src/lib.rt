@@ -6,11 +6,10 @@ ghost use Rattle.layout.specs.WellFormed.{WellFormed};
 ghost use Rattle.kernel_step.specs.Slices.{slices};
 ghost use Rattle.export_drive.specs.Exported.{Exported};
 
-use call_steps::numbers::{capability_at, name_at};
-use export_numbers::drive::{REPLY, REQUEST, place_of, put_picked, repeat_of};
-use export_numbers::numbers::fits;
+use export_numbers::drive::PickAsked;
+use export_numbers::numbers::{asked, tell};
 use product_drive::{pick, pick_unchecked};
-use values::code::OUT_OF_RANGE;
+use values::refusal::Refusal;
 
 // Makes the pick that the request's numbers say, and writes the reply's; where either slice has another length, nothing.
 pub fn pick_by_numbers(
@@ -25,21 +24,25 @@ pub fn pick_by_numbers(
         (slices bytes.old links.old words.old buffer.old [])
         (slices bytes.new links.new words.new buffer.new []) }
 {
-    if fits(request.len(), REQUEST, reply.len(), REPLY) {
-        let caller = name_at(request, 0);
-        let presented = capability_at(request, 2);
-        let repeat = repeat_of(request);
-        let place = place_of(request);
-        let p = pick(
-            bytes, links, words, buffer, caller, presented, repeat, place,
-        );
-        put_picked(p, reply);
-        return p.code;
-    }
-    OUT_OF_RANGE
+    let Some(ask) = asked::<PickAsked>(request, reply) else {
+        return u32::from(Refusal::OutOfRange);
+    };
+    let answer = pick(
+        bytes,
+        links,
+        words,
+        buffer,
+        ask.caller,
+        ask.presented,
+        ask.repeat,
+        ask.place,
+    );
+    tell(answer, reply)
 }
 
 // The same on a well-formed store, which is not checked.
+// kept: beside `pick_by_numbers` it has a `requires`; with the pick as a parameter, the `ensures` of both would be read off
+// what that parameter ensures.
 pub fn pick_unchecked_by_numbers(
     bytes: &mut [u8],
     links: &mut [u16],
@@ -53,16 +56,18 @@ pub fn pick_unchecked_by_numbers(
         (slices bytes.old links.old words.old buffer.old [])
         (slices bytes.new links.new words.new buffer.new []) }
 {
-    if fits(request.len(), REQUEST, reply.len(), REPLY) {
-        let caller = name_at(request, 0);
-        let presented = capability_at(request, 2);
-        let repeat = repeat_of(request);
-        let place = place_of(request);
-        let r = pick_unchecked(
-            bytes, links, words, buffer, caller, presented, repeat, place,
-        );
-        put_picked(r, reply);
-        return r.code;
-    }
-    OUT_OF_RANGE
+    let Some(ask) = asked::<PickAsked>(request, reply) else {
+        return u32::from(Refusal::OutOfRange);
+    };
+    let picked = pick_unchecked(
+        bytes,
+        links,
+        words,
+        buffer,
+        ask.caller,
+        ask.presented,
+        ask.repeat,
+        ask.place,
+    );
+    tell(picked, reply)
 }

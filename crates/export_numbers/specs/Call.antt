@@ -1,8 +1,10 @@
 -- A call across C: the request's numbers and the reply's, in the order of the structs' fields.
 use Rattle.std.specs.Prelude.{ℕ, List, [], ◌∷◌, get_or}
 use Rattle.call_steps.specs.declared.request.Request.{Request}
-use Rattle.call_steps.specs.declared.request.Reply.{Reply}
+use Rattle.call_steps.specs.declared.request.Given.{Given}
+use Rattle.call_steps.specs.Request.{Reply}
 use Rattle.call_steps.specs.Numbers.{name_at, capability_at, window_at}
+use Rattle.export_numbers.specs.Numbers.{told}
 
 -- how many numbers a request and a reply have
 abbrev pub request_length : ℕ
@@ -31,16 +33,29 @@ request_of l = record {
   day = get_or l 21 0;
 }
 
+-- after a refusal
+abbrev pub nothing : Given
+nothing = record {
+  count = 0;
+  length = 0;
+  capability = record { name = record { volume = 0; serial = 0 }; password = 0 ∷ 0 ∷ [] };
+  moneyword = 0;
+  sum = 0;
+}
+
 -- the code, a new capability, length, moneyword, sum, and how many bytes stand at the buffer's front
-unfoldable pub numbers_of : Reply → List ℕ
-numbers_of r =
-    r.code
-    ∷ r.capability.name.volume
-    ∷ r.capability.name.serial
-    ∷ get_or r.capability.password 0 0
-    ∷ get_or r.capability.password 1 0
-    ∷ r.length
-    ∷ r.moneyword
-    ∷ r.sum
-    ∷ r.count
+unfoldable pub row : ℕ → Given → List ℕ
+row code x =
+    code
+    ∷ x.capability.name.volume
+    ∷ x.capability.name.serial
+    ∷ get_or x.capability.password 0 0
+    ∷ get_or x.capability.password 1 0
+    ∷ x.length
+    ∷ x.moneyword
+    ∷ x.sum
+    ∷ x.count
     ∷ []
+
+abbrev pub numbers_of : Reply → List ℕ
+numbers_of r = told row nothing r

@@ -1,6 +1,7 @@
 -- The count of passwords across C.
-use Rattle.std.specs.Prelude.{ℕ, List, [], ◌∷◌, get_or}
-use Rattle.question_count.specs.declared.Counted.{Counted}
+use Rattle.std.specs.Prelude.{ℕ, List, get_or, Result}
+use Rattle.values.specs.declared.refusal.Refusal.{Refusal}
+use Rattle.export_numbers.specs.Numbers.{told, number_row}
 
 -- how many numbers a request and a reply have
 abbrev pub request_length : ℕ
@@ -14,5 +15,5 @@ abbrev pub right_of : List ℕ → ℕ
 right_of l = get_or l 4 0
 
 -- the code, the number
-unfoldable pub numbers_of : Counted → List ℕ
-numbers_of a = a.code ∷ a.count ∷ []
+abbrev pub numbers_of : Result ℕ Refusal → List ℕ
+numbers_of a = told number_row 0 a

@@ -1,52 +1,79 @@
 // A call's request and its reply.
-ghost use Rattle.std.specs.Prelude.{◌≡◌, length};
-ghost use Rattle.export_numbers.specs.Call.{request_length, reply_length, request_of, numbers_of};
+ghost use Rattle.export_numbers.specs.Call.{request_length, reply_length, request_of, nothing, row};
 
+use crate::numbers::{Asks, Told};
 use call_steps::numbers::{capability_at, name_at, window_at};
-use call_steps::request::{Reply, Request};
+use call_steps::request::{Capability, Given, Name, Reply, Request};
 
-// How many numbers a request and a reply have.
-pub const REQUEST: usize = 22;
+impl Asks for Request {
+    type Answer = Reply;
 
-pub const REPLY: usize = 9;
+    const LENGTH: usize = 22;
 
-// The 22 numbers of a request.
-pub fn request_of(numbers: &[u32]) -> Request
-    requires { length numbers.now ≡ request_length }
-    ensures { result ≡ request_of numbers.now }
-{
-    Request {
-        number: numbers[0],
-        caller: name_at(numbers, 1),
-        presented: capability_at(numbers, 3),
-        name: name_at(numbers, 7),
-        size: numbers[9],
-        flag: numbers[10],
-        rights: numbers[11],
-        drawn: [numbers[12], numbers[13]],
-        range: window_at(numbers, 14),
-        sum: numbers[16],
-        lock: [numbers[17], numbers[18]],
-        limit: numbers[19],
-        last_day: numbers[20],
-        day: numbers[21],
+    ghost LENGTH = { request_length };
+
+    ghost meant = { request_of };
+
+    #[tactic(auto, unfolding(crate::specs::Call::request_of))]
+    fn of_numbers(request: &[u32]) -> Request {
+        Request {
+            number: request[0],
+            caller: name_at(request, 1),
+            presented: capability_at(request, 3),
+            name: name_at(request, 7),
+            size: request[9],
+            flag: request[10],
+            rights: request[11],
+            drawn: [request[12], request[13]],
+            range: window_at(request, 14),
+            sum: request[16],
+            lock: [request[17], request[18]],
+            limit: request[19],
+            last_day: request[20],
+            day: request[21],
+        }
     }
 }
 
-// The 9 numbers of a reply.
-pub fn put_reply(r: Reply, numbers: &mut [u32])
-    requires { length numbers.old ≡ reply_length }
-    ensures { numbers.new ≡ numbers_of r }
-{
-    let capability = r.capability;
-    let password = capability.password;
-    numbers[0] = r.code;
-    numbers[1] = capability.name.volume;
-    numbers[2] = capability.name.serial;
-    numbers[3] = password[0];
-    numbers[4] = password[1];
-    numbers[5] = r.length;
-    numbers[6] = r.moneyword;
-    numbers[7] = r.sum;
-    numbers[8] = r.count;
+impl Told for Given {
+    const LENGTH: usize = 9;
+
+    ghost LENGTH = { reply_length };
+
+    ghost nothing = { nothing };
+
+    ghost numbers = { row };
+
+    fn nothing() -> Given {
+        Given {
+            count: 0,
+            length: 0,
+            capability: Capability {
+                name: Name {
+                    volume: 0,
+                    serial: 0,
+                },
+                password: [0, 0],
+            },
+            moneyword: 0,
+            sum: 0,
+        }
+    }
+
+    #[tactic(auto, unfolding(crate::specs::Call::row))]
+    fn put_row(self, code: u32, reply: &mut [u32]) {
+        let capability = self.capability;
+        let [p1, p2] = capability.password;
+        reply.copy_from_slice(&[
+            code,
+            capability.name.volume,
+            capability.name.serial,
+            p1,
+            p2,
+            self.length,
+            self.moneyword,
+            self.sum,
+            self.count,
+        ]);
+    }
 }

@@ -1,19 +1,34 @@
-// The request and the reply of the count of passwords.
-ghost use Rattle.std.specs.Prelude.{◌≡◌, length};
-ghost use Rattle.export_numbers.specs.Count.{reply_length, numbers_of};
+// The request of the count of passwords; the reply is a number.
+ghost use Rattle.call_steps.specs.Numbers.{name_at};
+ghost use Rattle.export_numbers.specs.Count.{request_length, right_of};
 
-use question_count::Counted;
+use crate::numbers::Asks;
+use call_steps::numbers::name_at;
+use call_steps::request::Name;
+use values::refusal::Refusal;
 
-// How many numbers a request and a reply have.
-pub const REQUEST: usize = 5;
+// How many passwords, presented by a process for an object, would get past 5 and 6 for a right.
+#[derive(Clone, Copy)]
+pub struct CountAsked {
+    pub process: Name,
+    pub object: Name,
+    pub right: u32,
+}
 
-pub const REPLY: usize = 2;
+impl Asks for CountAsked {
+    type Answer = Result<u32, Refusal>;
 
-// The 2 numbers of a reply.
-pub fn put_counted(a: Counted, numbers: &mut [u32])
-    requires { length numbers.old ≡ reply_length }
-    ensures { numbers.new ≡ numbers_of a }
-{
-    numbers[0] = a.code;
-    numbers[1] = a.count;
+    const LENGTH: usize = 5;
+
+    ghost LENGTH = { request_length };
+
+    ghost meant = { λ l. record { process = name_at l 0; object = name_at l 2; right = right_of l } };
+
+    fn of_numbers(request: &[u32]) -> CountAsked {
+        CountAsked {
+            process: name_at(request, 0),
+            object: name_at(request, 2),
+            right: request[4],
+        }
+    }
 }

@@ -1,33 +1,39 @@
-// The request and the reply of the lending question.
-ghost use Rattle.std.specs.Prelude.{◌≡◌, length};
-ghost use Rattle.export_numbers.specs.Lend.{request_length, reply_length, wish_at, numbers_of};
+// The request of the lending question; the reply is a number.
+ghost use Rattle.call_steps.specs.Numbers.{name_at};
+ghost use Rattle.export_numbers.specs.Lend.{request_length, wish_at};
 
-use call_steps::numbers::window_at;
-use question_lend::{Lent, Wish};
+use crate::numbers::Asks;
+use call_steps::numbers::{name_at, window_at};
+use call_steps::request::Name;
+use question_lend::Wish;
+use values::refusal::Refusal;
 
-// How many numbers a request and a reply have.
-pub const REQUEST: usize = 7;
-
-pub const REPLY: usize = 2;
-
-// The wish of a request.
-pub fn wish_of(numbers: &[u32]) -> Wish
-    requires { length numbers.now ≡ request_length }
-    ensures { result ≡ wish_at numbers.now }
-{
-    Wish {
-        rights: numbers[2],
-        window: window_at(numbers, 3),
-        sum: numbers[5],
-        last_day: numbers[6],
-    }
+// What a lender can lend from a list, which crosses in a slice of its own.
+#[derive(Clone, Copy)]
+pub struct LendAsked {
+    pub lender: Name,
+    pub wish: Wish,
 }
 
-// The 2 numbers of a reply.
-pub fn put_lent(a: Lent, numbers: &mut [u32])
-    requires { length numbers.old ≡ reply_length }
-    ensures { numbers.new ≡ numbers_of a }
-{
-    numbers[0] = a.code;
-    numbers[1] = a.place;
+impl Asks for LendAsked {
+    type Answer = Result<u32, Refusal>;
+
+    const LENGTH: usize = 7;
+
+    ghost LENGTH = { request_length };
+
+    ghost meant = { λ l. record { lender = name_at l 0; wish = wish_at l } };
+
+    fn of_numbers(request: &[u32]) -> LendAsked {
+        let wish = Wish {
+            rights: request[2],
+            window: window_at(request, 3),
+            sum: request[5],
+            last_day: request[6],
+        };
+        LendAsked {
+            lender: name_at(request, 0),
+            wish,
+        }
+    }
 }

@@ -3,9 +3,10 @@
 
 ghost use Rattle.export_questions.specs.Told.{WindowTold, CountTold, LendTold};
 
-use call_steps::numbers::{capability_at, name_at};
-use export_numbers::numbers::{fits, unfit};
-use export_numbers::{count, lend, window};
+use export_numbers::count::CountAsked;
+use export_numbers::lend::LendAsked;
+use export_numbers::numbers::{asked, tell, unfit};
+use export_numbers::window::WindowAsked;
 use question_count::ask_count;
 use question_lend::ask_lend;
 use question_window::ask_window;
@@ -21,14 +22,11 @@ pub fn window_by_numbers(
     ensures { WindowTold bytes.now links.now words.now request.now result
         reply.old reply.new }
 {
-    if fits(request.len(), window::REQUEST, reply.len(), window::REPLY) {
-        let caller = name_at(request, 0);
-        let presented = capability_at(request, 2);
-        let a = ask_window(bytes, links, words, caller, presented);
-        window::put_window(a, reply);
-        return a.code;
-    }
-    unfit(bytes, links, words)
+    let Some(ask) = asked::<WindowAsked>(request, reply) else {
+        return unfit(bytes, links, words);
+    };
+    let window = ask_window(bytes, links, words, ask.caller, ask.presented);
+    tell(window, reply)
 }
 
 // Asks for the count of passwords in the same way.
@@ -42,15 +40,11 @@ pub fn count_by_numbers(
     ensures { CountTold bytes.now links.now words.now request.now result
         reply.old reply.new }
 {
-    if fits(request.len(), count::REQUEST, reply.len(), count::REPLY) {
-        let process = name_at(request, 0);
-        let object = name_at(request, 2);
-        let right = request[4];
-        let answer = ask_count(bytes, links, words, process, object, right);
-        count::put_counted(answer, reply);
-        return answer.code;
-    }
-    unfit(bytes, links, words)
+    let Some(ask) = asked::<CountAsked>(request, reply) else {
+        return unfit(bytes, links, words);
+    };
+    let counted = ask_count(bytes, links, words, ask.process, ask.object, ask.right);
+    tell(counted, reply)
 }
 
 // Asks in the same way what can be lent from a list.
@@ -65,12 +59,9 @@ pub fn lend_by_numbers(
     ensures { LendTold bytes.now links.now words.now list.now
         request.now result reply.old reply.new }
 {
-    if fits(request.len(), lend::REQUEST, reply.len(), lend::REPLY) {
-        let lender = name_at(request, 0);
-        let wish = lend::wish_of(request);
-        let lent = ask_lend(bytes, links, words, list, lender, wish);
-        lend::put_lent(lent, reply);
-        return lent.code;
-    }
-    unfit(bytes, links, words)
+    let Some(ask) = asked::<LendAsked>(request, reply) else {
+        return unfit(bytes, links, words);
+    };
+    let lent = ask_lend(bytes, links, words, list, ask.lender, ask.wish);
+    tell(lent, reply)
 }

@@ -5,9 +5,8 @@ ghost use Rattle.std.specs.Prelude.{[]};
 ghost use Rattle.kernel_step.specs.Slices.{slices};
 ghost use Rattle.export_royalties.specs.Exported.{Exported};
 
-use call_steps::numbers::{capability_at, name_at};
-use export_numbers::numbers::{fits, unfit};
-use export_numbers::royalties::{REPLY, REQUEST, put_billed};
+use export_numbers::numbers::{asked, tell, unfit};
+use export_numbers::royalties::BillAsked;
 use product_royalties::bill;
 
 // Makes the bill that the request's numbers say, and writes the reply's; where either slice has another length, nothing.
@@ -22,14 +21,17 @@ pub fn bill_by_numbers(
         (slices bytes.old links.old words.old [] [])
         (slices bytes.new links.new words.new [] []) }
 {
-    if fits(request.len(), REQUEST, reply.len(), REPLY) {
-        let caller = name_at(request, 0);
-        let presented = capability_at(request, 2);
-        let count = request[6];
-        let picks = request[7];
-        let r = bill(bytes, links, words, caller, presented, count, picks);
-        put_billed(r, reply);
-        return r.code;
-    }
-    unfit(bytes, links, words)
+    let Some(ask) = asked::<BillAsked>(request, reply) else {
+        return unfit(bytes, links, words);
+    };
+    let billed = bill(
+        bytes,
+        links,
+        words,
+        ask.caller,
+        ask.presented,
+        ask.count,
+        ask.picks,
+    );
+    tell(billed, reply)
 }

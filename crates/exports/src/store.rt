@@ -7,6 +7,8 @@ ghost use Rattle.kernel_fresh.specs.Fresh.{Fresh};
 ghost use Rattle.kernel_step.specs.Slices.{slices};
 ghost use Rattle.export_calls.specs.Exported.{Exported};
 
+use values::refusal::code_of;
+
 // Whether the store is well formed.
 #[unsafe(no_mangle)]
 pub extern "C" fn store_check(bytes: &[u8], links: &[u16], words: &[u32]) -> bool
@@ -28,7 +30,8 @@ pub extern "C" fn store_fresh(
     ensures { Fresh supply (password_of (p1 ∷ p2 ∷ [])) bytes.old links.old words.old
         bytes.new links.new words.new result }
 {
-    kernel_fresh::fresh(supply, [p1, p2], bytes, links, words)
+    let made = kernel_fresh::fresh(supply, [p1, p2], bytes, links, words);
+    code_of(&made)
 }
 
 // Makes a call: 22 numbers of a request, 9 of the reply. Where either slice has another length, nothing is written, and

@@ -1,12 +1,13 @@
 -- Where the program stands between two turns, and what its parts keep of it.
-use Rattle.std.specs.Prelude.{ℕ, ◌+◌, ◌≤◌, ◌≡◌, true, List, [], ◌++◌, length, take, drop}
-use Rattle.script_play.specs.Plays.{Working}
+use Rattle.std.specs.Prelude.{ℕ, ◌+◌, ◌≤◌, ◌≡◌, List, [], ◌++◌, length, take, drop, Option, Some, None}
+use Rattle.script_play.specs.declared.workspace.Workspace.{Workspace}
+use Rattle.script_play.specs.Workspace.{Works}
 use Rattle.script_driver.specs.Stores.{Store, Formed, stores}
 use Rattle.script_driver.specs.Contract as Contract
 use Rattle.script_driver.specs.Contract.{LAST, ROOM, stage_of, held_in}
 use Rattle.script_driver.specs.Turns.{HELD, At, Feeds}
-use Rattle.script_driver.specs.Parts.{run_of}
-use Rattle.hall.specs.declared.Stand.{Stand}
+use Rattle.script_driver.specs.declared.Run.{Run}
+use Rattle.script_driver.specs.Parts.{store_in, run_of}
 
 -- the size of the input and of the output buffer
 abbrev pub BUFFER : ℕ
@@ -18,29 +19,29 @@ TURNS = 140737488355328
 
 -- ---- the output buffer
 
-pub record Placed (out : List ℕ) (x : Stand) : Type 0 where
+pub record Placed (out : List ℕ) (x : Run) : Type 0 where
   pub size : length out ≡ BUFFER
-  pub placed : x.run.at ≤ BUFFER
+  pub placed : x.at ≤ BUFFER
 
 -- what is in the buffer and was not handed over to be written
-abbrev pub pending : Stand → List ℕ → List ℕ
-pending x out = take x.run.at out
+abbrev pub pending : Run → List ℕ → List ℕ
+pending x out = take x.at out
 
 -- there is room for an answer and the end, and the run stands where it stood; `written` was handed over, and the rest is pending still
-pub record Roomy (out : List ℕ) (x y : Stand) : Type 0 where
-  pub room : y.run.at + ROOM ≤ length out
-  pub run : run_of y.run ≡ run_of x.run
+pub record Roomy (out : List ℕ) (x y : Run) : Type 0 where
+  pub room : y.at + ROOM ≤ length out
+  pub run : run_of y ≡ run_of x
   pub written : List ℕ
   pub kept : pending x out ≡ written ++ pending y out
 
 -- ---- what is fed
 
 -- where the script stands, and what is held
-abbrev pub stage : Stand → Store → At stores
-stage x s = stage_of (run_of x.run) s
+abbrev pub stage : Run → Store → At stores
+stage x s = stage_of (run_of x) s
 
-abbrev pub line : Stand → List ℕ → List ℕ
-line x held = held_in (run_of x.run) held
+abbrev pub line : Run → List ℕ → List ℕ
+line x held = held_in (run_of x) held
 
 -- from stage g, where the bytes l are held, all of the window is fed, in one turn after another, with any room in each: the text comes
 -- of it, and the script stands at g' and holds l'
@@ -51,7 +52,7 @@ pub data Comes : At stores → List ℕ → List ℕ → List ℕ → At stores 
 
 -- s, held, out, x at entry, s', held', out', y at exit: the window was fed, and of what was pending and the text that came after it `written`
 -- was handed over, and the rest is pending
-pub record Passed (s : Store) (held window out : List ℕ) (x : Stand) (s' : Store) (held' out' : List ℕ) (y : Stand) : Type 0 where
+pub record Passed (s : Store) (held window out : List ℕ) (x : Run) (s' : Store) (held' out' : List ℕ) (y : Run) : Type 0 where
   pub text : List ℕ
   pub written : List ℕ
   pub comes : Comes (stage x s) (line x held) window text (stage y s') (line y held')
@@ -60,39 +61,52 @@ pub record Passed (s : Store) (held window out : List ℕ) (x : Stand) (s' : Sto
 -- ---- between two turns
 
 -- the driver stands, in its working room, and the output buffer has its size
-pub record Stands (s : Store) (held ns ts bs ss out : List ℕ) (x : Stand) : Type 0 where
-  pub stands : Contract.Stands s held (run_of x.run)
-  pub working : Working ns ts bs ss
+pub record Stands (w : Workspace) (held out : List ℕ) (x : Run) : Type 0 where
+  pub stands : Contract.Stands (store_in w) held (run_of x)
+  pub working : Works w
   pub output : Placed out x
-  pub counted : x.run.number + BUFFER ≤ LAST
+  pub counted : x.number + BUFFER ≤ LAST
 
 -- and what is fed is no more than a buffer
-pub record FeedsAll (s : Store) (held ns ts bs ss window out : List ℕ) (x : Stand) : Type 0 where
-  pub stands : Stands s held ns ts bs ss out x
+pub record FeedsAll (w : Workspace) (held window out : List ℕ) (x : Run) : Type 0 where
+  pub stands : Stands w held out x
   pub few : length window ≤ BUFFER
 
 -- x at entry, y at exit: the driver stands again, and no more lines were counted than bytes were fed
-pub record FedAll (s : Store) (held ns ts bs ss window out : List ℕ) (x y : Stand) : Type 0 where
-  pub stands : Contract.Stands s held (run_of y.run)
-  pub working : Working ns ts bs ss
+pub record FedAll (w : Workspace) (held window out : List ℕ) (x y : Run) : Type 0 where
+  pub stands : Contract.Stands (store_in w) held (run_of y)
+  pub working : Works w
   pub output : Placed out y
-  pub number : y.run.number ≤ x.run.number + length window
+  pub number : y.number ≤ x.number + length window
 
--- and where no write failed, all of the window was fed
-pub record AllFed (s₀ : Store) (held₀ out₀ : List ℕ) (s : Store) (held ns ts bs ss window out : List ℕ) (x y : Stand) : Type 0 where
-  pub fed : FedAll s held ns ts bs ss window out x y
-  pub passed : y.going ≡ true → Passed s₀ held₀ window out₀ x s held out y
+-- and all of the window was fed
+pub record AllFed (s₀ : Store) (held₀ out₀ : List ℕ) (w : Workspace) (held window out : List ℕ) (x y : Run) : Type 0 where
+  pub fed : FedAll w held window out x y
+  pub passed : Passed s₀ held₀ window out₀ x (store_in w) held out y
 
 -- and that is a front of the input buffer, so many bytes of what is there at exit
-pub record Turned (s₀ : Store) (held₀ out₀ : List ℕ) (s : Store) (held ns ts bs ss input₀ input out : List ℕ) (x y : Stand) : Type 0 where
-  pub fed : FedAll s held ns ts bs ss input₀ out x y
+pub record Turned (s₀ : Store) (held₀ out₀ : List ℕ) (w : Workspace) (held input₀ input out : List ℕ) (x y : Run) : Type 0 where
+  pub fed : FedAll w held input₀ out x y
   pub got : ℕ
-  pub passed : y.going ≡ true → Passed s₀ held₀ (take got input) out₀ x s held out y
+  pub passed : Passed s₀ held₀ (take got input) out₀ x (store_in w) held out y
+
+-- where a write failed, or the input is over, nothing goes on, and the store is well formed
+abbrev pub MadeRoom : List ℕ → Run → Option Run → Type 0
+MadeRoom out x (Some y) = Roomy out x y
+MadeRoom out x None = Unit {0}
+
+abbrev pub FedIf : Store → List ℕ → List ℕ → Workspace → List ℕ → List ℕ → List ℕ → Run → Option Run → Type 0
+FedIf s₀ held₀ out₀ w held window out x (Some y) = AllFed s₀ held₀ out₀ w held window out x y
+FedIf s₀ held₀ out₀ w held window out x None = Formed (store_in w)
+
+abbrev pub TurnedIf : Store → List ℕ → List ℕ → Workspace → List ℕ → List ℕ → List ℕ → List ℕ → Run → Option Run → Type 0
+TurnedIf s₀ held₀ out₀ w held input₀ input out x (Some y) = Turned s₀ held₀ out₀ w held input₀ input out x y
+TurnedIf s₀ held₀ out₀ w held input₀ input out x None = Formed (store_in w)
 
 -- before the first turn
-pub record Begins (s : Store) (held ns ts bs ss input out : List ℕ) : Type 0 where
-  pub formed : Formed s
+pub record Begins (w : Workspace) (held input out : List ℕ) : Type 0 where
+  pub formed : Formed (store_in w)
   pub size : length held ≡ HELD
-  pub working : Working ns ts bs ss
+  pub working : Works w
   pub input-size : length input ≡ BUFFER
   pub output-size : length out ≡ BUFFER

@@ -8,10 +8,10 @@ use native.Mathlib.Decide.{dec_le}
 use lib.ListN.{length, length-take}
 use Rattle.rules.specs.Code as Code
 use Rattle.call_steps.specs.declared.request.Request.{Request}
-use Rattle.call_steps.specs.declared.request.Reply.{Reply}
 use Rattle.kernel_step.specs.Slices.{Slices}
 use Rattle.kernel_step.specs.Steps.{Stepped}
 use Rattle.kernel_call.specs.Calls.{Nothing, FormedIn, Calls}
+use Rattle.call_steps.specs.Request.{Reply, count_of}
 
 -- a slice without cells, as products lend it
 pub no_cells : (l : List ℕ) → length l ≡ 0 → l ≡ []
@@ -30,7 +30,7 @@ module _ {q : Request} {text : List ℕ} {r : Reply} {was is : Slices} where
   calls-step f s = record { unsound = λ bad. absurd (bad f); steps = λ _. s }
 
   -- the reply counts no more bytes than the buffer has
-  pub count_fits : Calls q text r was is → r.count ≤ length is.buffer
-  count_fits c = either_way (dec_le r.count (length is.buffer))
-      (λ f. omega (arith, length-take r.count is.buffer, (c.steps f).rules.count))
+  pub count_fits : Calls q text r was is → count_of r ≤ length is.buffer
+  count_fits c = either_way (dec_le (count_of r) (length is.buffer))
+      (λ f. omega (arith, length-take (count_of r) is.buffer, (c.steps f).rules.count))
       (λ bad. omega (arith, (c.unsound bad).reply.none))

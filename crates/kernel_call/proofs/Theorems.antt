@@ -8,8 +8,7 @@ use lib.ListN.{length}
 use Rattle.rules.specs.Limit as Limit
 use Rattle.rules.specs.Call.{Answer}
 use Rattle.call_steps.specs.declared.request.Request.{Request}
-use Rattle.call_steps.specs.declared.request.Reply.{Reply}
-use Rattle.call_steps.specs.Request.{call_of, answer_of}
+use Rattle.call_steps.specs.Request.{Reply, call_of, answer_of}
 use Rattle.call_steps.specs.Run.{Ran, overlay}
 use Rattle.call_steps.proofs.Replying.{answers-code}
 use Rattle.kernel_step.specs.Slices.{Slices, slices}

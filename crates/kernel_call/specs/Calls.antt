@@ -3,10 +3,10 @@ use Rattle.std.specs.Prelude.{ℕ, ◌≡◌, List}
 use Rattle.rules.specs.Code as Code
 use Rattle.layout.specs.WellFormed.{WellFormed}
 use Rattle.call_steps.specs.declared.request.Request.{Request}
-use Rattle.call_steps.specs.declared.request.Reply.{Reply}
 use Rattle.call_steps.specs.Refuses.{Refuses}
 use Rattle.kernel_step.specs.Slices.{Slices}
 use Rattle.kernel_step.specs.Steps.{Stepped}
+use Rattle.call_steps.specs.Request.{Reply}
 
 -- the refusal n, and no slice changed
 pub record Nothing (n : ℕ) (r : Reply) (was is : Slices) : Type 0 where

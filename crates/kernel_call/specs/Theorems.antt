@@ -3,8 +3,7 @@
 use Rattle.std.specs.Prelude.{ℕ, ◌≤◌, ◌≡◌, List, length}
 use Rattle.rules.specs.Limit as Limit
 use Rattle.call_steps.specs.declared.request.Request.{Request}
-use Rattle.call_steps.specs.declared.request.Reply.{Reply}
-use Rattle.call_steps.specs.Request.{answer_of}
+use Rattle.call_steps.specs.Request.{Reply, answer_of}
 use Rattle.kernel_step.specs.Slices.{Slices, slices, Store}
 use Rattle.kernel_step.specs.Steps.{front}
 use Rattle.kernel_call.specs.Calls.{Calls}

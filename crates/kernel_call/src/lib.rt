@@ -7,7 +7,7 @@ ghost use Rattle.kernel_call.specs.Calls.{Calls};
 use call_steps::request::{Reply, Request};
 use kernel_check::check;
 use kernel_step::step;
-use values::code::ILL_FORMED;
+use values::refusal::Refusal;
 
 // Any call on any store; `text` are write's data or send's message.
 pub fn call(
@@ -23,8 +23,8 @@ pub fn call(
         (slices bytes.old links.old words.old buffer.old scratch.old)
         (slices bytes.new links.new words.new buffer.new scratch.new) }
 {
-    if check(bytes, links, words) {
-        return step(bytes, links, words, text, buffer, scratch, req);
+    if !check(bytes, links, words) {
+        return Err(Refusal::IllFormed);
     }
-    Reply::refused(ILL_FORMED)
+    step(bytes, links, words, text, buffer, scratch, req)
 }

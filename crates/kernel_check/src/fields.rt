@@ -15,9 +15,8 @@ pub(crate) fn check_fields(bytes: &[u8], links: &[u16], words: &[u32]) -> bool
     if !objects_fit(bytes, links, words) {
         return false;
     }
-    let caps = scan_caps(links, words);
-    if !caps.fits {
+    let Some(masters) = scan_caps(links, words) else {
         return false;
-    }
-    total_fits(bytes, links, words, caps.masters)
+    };
+    total_fits(bytes, links, words, masters)
 }

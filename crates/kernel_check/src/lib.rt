@@ -14,17 +14,8 @@ mod fields;
 pub fn check(bytes: &[u8], links: &[u16], words: &[u32]) -> bool
     ensures { Decides (WellFormed bytes.now links.now words.now) result }
 {
-    if bytes.len() != BYTES {
+    if bytes.len() != BYTES || links.len() != LINKS || words.len() != WORDS {
         return false;
     }
-    if links.len() != LINKS {
-        return false;
-    }
-    if words.len() != WORDS {
-        return false;
-    }
-    if check_shape(links) {
-        return check_fields(bytes, links, words);
-    }
-    false
+    check_shape(links) && check_fields(bytes, links, words)
 }

@@ -12,7 +12,7 @@ use lib.ListN.{length, get_or, set, length-replicate}
 use lib.Seq.{get_or-set_same, get_or-set_other}
 use Rattle.rules.specs.Slots.{at}
 use Rattle.rules.proofs.Tests.{all2}
-use Rattle.layout.specs.Rows.{field}
+use Rattle.layout.specs.Rows.{cell_of, field}
 use Rattle.kernel_fresh.specs.Stores.{zeros}
 use Rattle.layout.proofs.Field.{field_in, at-is}
 
@@ -24,7 +24,7 @@ or_cases false b h f g = g h
 pub field-agree : (n off : ℕ) (l m : List ℕ) (j : ℕ)
     → (1 ≤ j → j ≤ n → get_or l (off + j) 0 ≡ get_or m (off + j) 0)
     → field n off l j ≡ field n off m j
-unfolding field
+unfolding cell_of
 field-agree n off l m j same = go (leb 1 j && leb j n) refl
   where
     go : (u : Bool) → (leb 1 j && leb j n) ≡ u → field n off l j ≡ field n off m j
@@ -32,7 +32,7 @@ field-agree n off l m j same = go (leb 1 j && leb j n) refl
         let low : 1 ≤ j = leb-true 1 j (all2 (leb 1 j) (leb j n) e).0 in
         let high : j ≤ n = leb-true j n (all2 (leb 1 j) (leb j n) e).1 in
         field_in n off l j low high ∙ same low high ∙ sym (field_in n off m j low high)
-    go false e = rw (e, field)
+    go false e = rw (e, cell_of)
 
 -- ---- a store
 
@@ -84,9 +84,9 @@ zero-cell (suc m) zero = refl
 zero-cell (suc m) (suc i) = zero-cell m i
 
 pub zero_row : (n off m : ℕ) → field n off (zeros m) ≡ (λ j. 0)
-unfolding field
+unfolding cell_of
 zero_row n off m = fun_ext (λ j. go j (leb 1 j && leb j n) refl)
   where
     go : (j : ℕ) (u : Bool) → (leb 1 j && leb j n) ≡ u → field n off (zeros m) j ≡ 0
-    go j true e = rw (e, field) (zero-cell m (off + j))
-    go j false e = rw (e, field)
+    go j true e = rw (e, cell_of) (zero-cell m (off + j))
+    go j false e = rw (e, cell_of)

@@ -1,5 +1,4 @@
 -- Laws that the proofs of this crate's functions share.
-pub mod Filling
 pub mod Slots
 pub mod Cells
 pub mod Chains

@@ -9,9 +9,7 @@ pub(crate) fn free_chain(links: &mut [u16], head: usize, off: usize, last: u16)
     ensures { links.new ≡ free_chain head off last links.old }
 {
     links[head] = last;
-    let mut i = last;
-    while 0 < i {
-        links[off + i as usize] = i - 1;
-        i -= 1;
+    for i in (0..last).rev() {
+        links[off + usize::from(i) + 1] = i;
     }
 }

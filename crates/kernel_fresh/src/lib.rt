@@ -2,11 +2,11 @@
 #![tactic(auto)]
 
 mod chain;
-mod fill;
 
 ghost use Rattle.std.specs.Prelude.{◌≡◌, length};
 ghost use Rattle.layout.specs.Layout as Layout;
 ghost use Rattle.values.specs.Words.{password_of};
+ghost use Rattle.values.specs.Refusals.{code_of};
 ghost use Rattle.kernel_fresh.specs.Slices.{fresh_bytes, free_links, first_links, fresh_links, fresh_words};
 ghost use Rattle.kernel_fresh.specs.Fresh.{Fresh};
 
@@ -15,6 +15,7 @@ use layout::{
     NEXT_CAP, NEXT_OBJECT, OBJECTS, OWNER, P1, P2, RIGHTS, SERIAL, WORDS,
 };
 use values::limit::{MAX_BLOCKS, MAX_CAPS, MAX_DAY, MAX_OBJECTS, MAX_RIGHTS};
+use values::refusal::Refusal;
 
 // The process has the last slot of an object, its master the last slot of a capability: a look-up starts there.
 const LAST_OBJECT: u16 = MAX_OBJECTS as u16;
@@ -33,7 +34,7 @@ fn fresh_bytes(bytes: &mut [u8])
     requires { length bytes.old ≡ Layout.BYTES }
     ensures { bytes.new ≡ fresh_bytes }
 {
-    fill::zero_bytes(bytes);
+    bytes.fill(0);
     bytes[FLAG + MAX_OBJECTS] = 1;
 }
 
@@ -65,7 +66,7 @@ fn fresh_links(links: &mut [u16])
     requires { length links.old ≡ Layout.LINKS }
     ensures { links.new ≡ fresh_links }
 {
-    fill::zero_links(links);
+    links.fill(0);
     free_links(links);
     first_links(links);
 }
@@ -75,34 +76,28 @@ fn fresh_words(supply: u32, password: [u32; 2], words: &mut [u32])
     requires { length words.old ≡ Layout.WORDS }
     ensures { words.new ≡ fresh_words supply (password_of password) }
 {
-    fill::zero_words(words);
+    words.fill(0);
     words[CASH + MAX_OBJECTS] = supply;
     words[P1 + MAX_CAPS] = password[0];
     words[P2 + MAX_CAPS] = password[1];
 }
 
-// Makes a fresh store, and answers 0. Slices of any other length give 1 and are not written.
+// Makes a fresh store. Slices of any other length are refused and not written.
 pub fn fresh(
     supply: u32,
     password: [u32; 2],
     bytes: &mut [u8],
     links: &mut [u16],
     words: &mut [u32],
-) -> u32
+) -> Result<(), Refusal>
     ensures { Fresh supply (password_of password) bytes.old links.old words.old
-        bytes.new links.new words.new result }
+        bytes.new links.new words.new (code_of result) }
 {
-    if bytes.len() != BYTES {
-        return 1;
-    }
-    if links.len() != LINKS {
-        return 1;
-    }
-    if words.len() != WORDS {
-        return 1;
+    if bytes.len() != BYTES || links.len() != LINKS || words.len() != WORDS {
+        return Err(Refusal::IllFormed);
     }
     fresh_bytes(bytes);
     fresh_links(links);
     fresh_words(supply, password, words);
-    0
+    Ok(())
 }

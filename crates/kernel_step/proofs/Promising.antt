@@ -12,8 +12,7 @@ use Rattle.layout.specs.View.{view}
 use Rattle.layout.specs.Shape.{Shape}
 use Rattle.layout.specs.WellFormed.{Sized, Cells, WellFormed}
 use Rattle.call_steps.specs.declared.request.Request.{Request}
-use Rattle.call_steps.specs.declared.request.Reply.{Reply}
-use Rattle.call_steps.specs.Request.{answer_of}
+use Rattle.call_steps.specs.Request.{Reply, count_of, answer_of}
 use Rattle.call_steps.specs.Run.{Ran, overlay}
 use Rattle.call_make.specs.Runs.{NewWereFree}
 use Rattle.call_enter.proofs.Meeting.{MeetsRule}
@@ -23,6 +22,8 @@ use Rattle.kernel_step.specs.Steps.{RefusalLeaves, front, Steps, Stepped}
 use Rattle.kernel_step.proofs.Meeting.{step-meets}
 use Rattle.kernel_step.proofs.Taking.{blocks-free}
 use Rattle.kernel_step.proofs.Refusing.{run-leaves}
+use Rattle.values.specs.Refusals.{code_of}
+use Rattle.call_steps.proofs.Replying.{answer-code, answer-bytes}
 
 -- ---- any run; S is what is kept of the links
 
@@ -35,20 +36,19 @@ pub record Promises (S : List ℕ → Type 0) (c : Call) (r : Reply) (was is : S
   pub cells : Cells is.bytes is.links
   pub kept : S is.links
   pub valid : Valid (state_of is)
-  pub count : length (front r is) ≡ r.count
+  pub count : length (front r is) ≡ count_of r
   pub buffer-is : is.buffer ≡ overlay (front r is) was.buffer
-  pub scratch-is : is.scratch ≡ scratch_after_call (op c.number) r.code was.scratch
-  pub refused : RefusalLeaves c r.code was is
+  pub scratch-is : is.scratch ≡ scratch_after_call (op c.number) (code_of r) was.scratch
+  pub refused : RefusalLeaves c (code_of r) was is
 
 module _ (S : List ℕ → Type 0) {c : Call} {r : Reply} {was is : Slices} {x : Ran} (m : MeetsRule S (state_of was) c x)
     (left : RefusalLeaves c x.answer.code was (slices x.bytes x.links x.words is.buffer is.scratch))
     (E : Ends c x r was is) where
   pub promises : Promises S c r was is
-  unfolding answer_of
   promises =
       let T = E.store in
-      let bytes-are : front r is ≡ x.answer.bytes = ap (λ (a : Answer). a.bytes) E.replies.answer in
-      let code_is : r.code ≡ x.answer.code = ap (λ (a : Answer). a.code) E.replies.answer in
+      let bytes-are : front r is ≡ x.answer.bytes = sym (answer-bytes r _) ∙ ap (λ (a : Answer). a.bytes) E.replies.answer in
+      let code_is : code_of r ≡ x.answer.code = sym (answer-code r _) ∙ ap (λ (a : Answer). a.code) E.replies.answer in
       record {
         choice = m.choice;
         allowed = m.allowed;
@@ -66,7 +66,7 @@ module _ (S : List ℕ → Type 0) {c : Call} {r : Reply} {was is : Slices} {x :
         count = ap length bytes-are ∙ sym E.replies.count;
         buffer-is = E.replies.buffer-is ∙ ap (λ t. overlay t was.buffer) (sym bytes-are);
         scratch-is = E.scratch ∙ ap (λ n. scratch_after_call (op c.number) n was.scratch) (sym code_is);
-        refused = subst (RefusalLeaves c r.code was)
+        refused = subst (RefusalLeaves c (code_of r) was)
             (λ d. slices (sym T.bytes d) (sym T.links d) (sym T.words d) is.buffer is.scratch)
             (subst (λ n. RefusalLeaves c n was (slices x.bytes x.links x.words is.buffer is.scratch))
             (sym code_is) left);

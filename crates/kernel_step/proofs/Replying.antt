@@ -10,8 +10,7 @@ use Rattle.rules.specs.Call.{Call, Answer, code}
 use Rattle.rules.proofs.Tests.{by_bool, pick_yes, pick-not}
 use Rattle.rules.proofs.Outcomes.{host-op}
 use Rattle.call_steps.specs.declared.request.Request.{Request}
-use Rattle.call_steps.specs.declared.request.Reply.{Reply}
-use Rattle.call_steps.specs.Request.{call_of, answer_of}
+use Rattle.call_steps.specs.Request.{Reply, call_of, answer_of}
 use Rattle.call_steps.specs.Refuses.{Refuses}
 use Rattle.call_steps.specs.Replies.{Answers, Replies, Fills}
 use Rattle.call_steps.specs.Run.{Ran, over, overlay}
@@ -21,6 +20,8 @@ use Rattle.call_prune.specs.Scratch.{scratch_left}
 use Rattle.call_prune.proofs.Clearing as Clearing
 use Rattle.kernel_step.specs.Slices.{Slices, slices, Store, call_on}
 use Rattle.kernel_step.specs.Ends.{clears, scratch_after_call, Ends, OwnEndsOf}
+use Rattle.values.specs.Refusals.{code_of}
+use Rattle.call_steps.proofs.Replying.{answer-code, answer-bytes}
 
 -- ---- the scratch
 
@@ -45,12 +46,10 @@ module _ (o : Op) (n : ℕ) (scratch : List ℕ) where
 
 module _ {r : Reply} {b l w : List ℕ} {x : Ran} (R : Replies r b l w x) where
   no_bytes : x.answer.bytes ≡ []
-  unfolding answer_of
-  no_bytes = ap (λ (a : Answer). a.bytes) (sym R.answer)
+  no_bytes = ap (λ (a : Answer). a.bytes) (sym R.answer) ∙ answer-bytes r []
 
-  replied-code : r.code ≡ x.answer.code
-  unfolding answer_of
-  replied-code = ap (λ (a : Answer). a.code) R.answer
+  replied-code : code_of r ≡ x.answer.code
+  replied-code = sym (answer-code r []) ∙ ap (λ (a : Answer). a.code) R.answer
 
   replied : (buffer : List ℕ) → Answers x.answer r buffer buffer
   unfolding overlay
@@ -121,7 +120,7 @@ module _ (own : OwnPart) (q : Request) (text : List ℕ) (me k : ℕ) (was : Sli
 
   -- one with no bytes
   reply-arm : {r : Reply} {is : Slices} → Replies r is.bytes is.links is.words (run m)
-      → is.buffer ≡ was.buffer → is.scratch ≡ scratch_after_call (op m) r.code was.scratch
+      → is.buffer ≡ was.buffer → is.scratch ≡ scratch_after_call (op m) (code_of r) was.scratch
       → OwnEndsOf own q text me k r was is
   reply-arm {r} {is} R same left = arm
       (subst (λ d. Answers (run m).answer r d is.buffer) same (replied R is.buffer))
@@ -131,10 +130,10 @@ module _ (own : OwnPart) (q : Request) (text : List ℕ) (me k : ℕ) (was : Sli
   pub arm-reply : {r : Reply} {is : Slices} → clears (op m) ≡ false
       → Replies r is.bytes is.links is.words (run m) → is.buffer ≡ was.buffer → is.scratch ≡ was.scratch
       → OwnEndsOf own q text me k r was is
-  arm-reply {r} free R same kept = reply-arm R same (kept ∙ scratch-kept (op m) r.code was.scratch free)
+  arm-reply {r} free R same kept = reply-arm R same (kept ∙ scratch-kept (op m) (code_of r) was.scratch free)
 
   -- delete_cap, rename_obj
   pub arm-cleared : {r : Reply} {is : Slices} → clears (op m) ≡ true
       → Replies r is.bytes is.links is.words (run m) → is.buffer ≡ was.buffer
-      → is.scratch ≡ scratch_left r.code was.scratch → OwnEndsOf own q text me k r was is
-  arm-cleared {r} all R same left = reply-arm R same (left ∙ scratch-cleared (op m) r.code was.scratch all)
+      → is.scratch ≡ scratch_left (code_of r) was.scratch → OwnEndsOf own q text me k r was is
+  arm-cleared {r} all R same left = reply-arm R same (left ∙ scratch-cleared (op m) (code_of r) was.scratch all)

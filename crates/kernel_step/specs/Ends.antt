@@ -3,7 +3,6 @@ use Rattle.std.specs.Prelude.{ℕ, ◌≡◌, Bool, true, false, ◌||◌, List,
 use Rattle.rules.specs.Rights.{Op, op, asked, DELETE_CAP, RENAME_OBJ}
 use Rattle.rules.specs.Call.{Call}
 use Rattle.call_steps.specs.declared.request.Request.{Request}
-use Rattle.call_steps.specs.declared.request.Reply.{Reply}
 use Rattle.call_steps.specs.Run.{Ran}
 use Rattle.call_steps.specs.Replies.{Answers}
 use Rattle.call_enter.specs.Entry.{OwnPart}
@@ -11,6 +10,7 @@ use Rattle.call_prune.specs.Scratch.{scratch_left}
 use Rattle.kernel_step.specs.Slices.{Slices, Store, call_on}
 use Rattle.kernel_step.specs.Own.{own_run}
 use Rattle.kernel_step.specs.Run.{step_run}
+use Rattle.call_steps.specs.Request.{Reply}
 
 -- ---- the scratch
 

@@ -8,13 +8,13 @@ use Rattle.rules.specs.Rule.{rule}
 use Rattle.rules.specs.Demand.{Allowed}
 use Rattle.layout.specs.WellFormed.{WellFormed}
 use Rattle.call_steps.specs.declared.request.Request.{Request}
-use Rattle.call_steps.specs.declared.request.Reply.{Reply}
-use Rattle.call_steps.specs.Request.{answer_of}
+use Rattle.call_steps.specs.Request.{Reply, count_of, answer_of}
 use Rattle.call_steps.specs.Paying.{terminated_bytes, paid_words}
 use Rattle.call_steps.specs.Run.{overlay}
 use Rattle.call_make.specs.Runs.{NewWereFree}
 use Rattle.kernel_step.specs.Slices.{Slices, Store, state_of, call_on}
 use Rattle.kernel_step.specs.Ends.{scratch_after_call, StepEnds}
+use Rattle.values.specs.Refusals.{code_of}
 
 -- what a refusal leaves of the store's slices
 pub record RefusalLeaves (c : Call) (code : ℕ) (was is : Slices) : Type 0 where
@@ -30,7 +30,7 @@ pub record RefusalLeaves (c : Call) (code : ℕ) (was is : Slices) : Type 0 wher
 
 -- the bytes at the buffer's front that the reply counts
 abbrev pub front : Reply → Slices → List ℕ
-front r is = take r.count is.buffer
+front r is = take (count_of r) is.buffer
 
 pub record Steps (c : Call) (r : Reply) (was is : Slices) : Type 0 where
   -- the free slots that a done call took, where 01 leaves open which
@@ -41,10 +41,10 @@ pub record Steps (c : Call) (r : Reply) (was is : Slices) : Type 0 where
   -- "Every call keeps it" well formed
   pub formed : WellFormed is.bytes is.links is.words
   -- the answer's bytes are at the buffer's front, and no later byte is changed
-  pub count : length (front r is) ≡ r.count
+  pub count : length (front r is) ≡ count_of r
   pub buffer-is : is.buffer ≡ overlay (front r is) was.buffer
-  pub scratch-is : is.scratch ≡ scratch_after_call (op c.number) r.code was.scratch
-  pub refused : RefusalLeaves c r.code was is
+  pub scratch-is : is.scratch ≡ scratch_after_call (op c.number) (code_of r) was.scratch
+  pub refused : RefusalLeaves c (code_of r) was is
   -- the blocks of an object that the call made were free
   pub blocks : NewWereFree was.links is.links
 

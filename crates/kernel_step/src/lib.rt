@@ -12,7 +12,6 @@ use call_day::set_day;
 use call_enter::entry::enter;
 use call_steps::request::{Reply, Request};
 use own::own;
-use values::code::DONE;
 use values::number::DAY;
 
 // Any call, done or refused; `text` are write's data or send's message.
@@ -41,11 +40,8 @@ pub fn step(
         text.len(),
         buffer.len(),
         scratch.len(),
-    );
-    if e.code == DONE {
-        return own(
-            bytes, links, words, text, buffer, scratch, e.me, e.slot, req,
-        );
-    }
-    Reply::refused(e.code)
+    )?;
+    own(
+        bytes, links, words, text, buffer, scratch, e.me, e.slot, req,
+    )
 }

@@ -19,7 +19,7 @@ use call_rename::rename_obj;
 use call_steps::request::{Reply, Request};
 use call_transfer::from_blocks::read;
 use call_transfer::to_blocks::write;
-use values::code::OUT_OF_RANGE;
+use values::refusal::Refusal;
 
 // The call's own part; slot me is the caller's, slot k that of the capability presented.
 pub(crate) fn own(
@@ -39,37 +39,24 @@ pub(crate) fn own(
         (slices bytes.old links.old words.old buffer.old scratch.old)
         (slices bytes.new links.new words.new buffer.new scratch.new) }
 {
-    let n = req.number;
-    let range = req.range;
-    let lock = req.lock;
-    let drawn = req.drawn;
-    match n {
+    // kept: 01 has "a decision over call numbers 1 to 16" here, and no enum of calls
+    match req.number {
         1 => make_obj(bytes, links, words, req),
-        2 => read(bytes, links, words, buffer, k, range.start, range.end),
-        3 => write(bytes, links, words, text, k, range.start, range.end),
+        2 => read(bytes, links, words, buffer, k, req.range),
+        3 => write(bytes, links, words, text, k, req.range),
         4 => cap_info(words, k),
-        5 => derive_cap(
-            bytes,
-            links,
-            words,
-            k,
-            req.rights,
-            range,
-            drawn,
-            req.limit,
-            req.last_day,
-        ),
+        5 => derive_cap(bytes, links, words, k, req),
         6 => delete_cap(bytes, links, words, scratch, k),
-        7 => rename_obj(bytes, links, words, scratch, k, drawn),
+        7 => rename_obj(bytes, links, words, scratch, k, req.drawn),
         8 => withdraw(links, words, me, k, req.sum),
         9 => deposit(links, words, me, k, req.sum),
         10 => suspend(bytes, links, k),
         11 => resume(bytes, links, k),
-        12 => apply_lock(bytes, links, words, k, lock),
+        12 => apply_lock(bytes, links, words, k, req.lock),
         13 => send(bytes, links, words, text, me, k, req.sum),
         14 => receive(bytes, words, buffer, me),
         15 => wait(bytes, me),
         16 => revive(bytes, links, words, me, k, req.sum),
-        _ => Reply::refused(OUT_OF_RANGE),
+        _ => Err(Refusal::OutOfRange),
     }
 }

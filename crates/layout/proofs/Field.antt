@@ -11,7 +11,7 @@ use borrow.Author.Tests.{le-leb, lt-leb}
 use lib.ListN.{get_or, set, drop, length, length-take, length-drop, length-set}
 use lib.Seq.{get_or-set_other, get_or-set_same, get_or-take, get_or-drop, take-set-lt, drop-set-add, ext_get_or}
 use Rattle.rules.specs.Slots.{at}
-use Rattle.layout.specs.Rows.{field, region}
+use Rattle.layout.specs.Rows.{cell_of, field, region}
 use Rattle.layout.specs.Sizes.{Slot}
 use Rattle.rules.proofs.Slots.{at_here, at-else}
 
@@ -41,21 +41,31 @@ at-ap f g i v j h = ap (λ x. elim (eqb j i) [ true ↦ v | false ↦ x ]) h
 
 -- ---- a row of n slots from off on: its cells in its slots, and 0 elsewhere
 
+-- of any type
+pub cell_in : {A : Type 0} (none : A) (n off : ℕ) (l : List A) (i : ℕ) → 1 ≤ i → i ≤ n
+    → cell_of none n off l i ≡ get_or l (off + i) none
+unfolding cell_of
+cell_in none n off l i p q = rw (le-leb 1 i p, le-leb i n q, cell_of)
+
+pub cell_out : {A : Type 0} (none : A) (n off : ℕ) (l : List A) (i : ℕ) → (1 ≤ i → i ≤ n → ⊥)
+    → cell_of none n off l i ≡ none
+unfolding cell_of
+cell_out none n off l i f = go (dec_le 1 i) (dec_le i n)
+  where
+    go : Dec (1 ≤ i) → Dec (i ≤ n) → cell_of none n off l i ≡ none
+    go (yes p) (yes q) = absurd (f p q)
+    go (yes p) (no q) = rw (le-leb 1 i p, lt-leb i n (omega arith), cell_of)
+    go (no p) d = rw (lt-leb 1 i (omega arith), cell_of)
+
+-- of numbers
 pub field_in : (n off : ℕ) (l : List ℕ) (i : ℕ) → 1 ≤ i → i ≤ n → field n off l i ≡ get_or l (off + i) 0
-unfolding field
-field_in n off l i p q = rw (le-leb 1 i p, le-leb i n q, field)
+field_in = cell_in 0
 
 pub row : {n : ℕ} (off : ℕ) (l : List ℕ) (i : ℕ) → Slot n i → field n off l i ≡ get_or l (off + i) 0
 row {n} off l i s = field_in n off l i s.low s.high
 
 pub field_out : (n off : ℕ) (l : List ℕ) (i : ℕ) → (1 ≤ i → i ≤ n → ⊥) → field n off l i ≡ 0
-unfolding field
-field_out n off l i f = go (dec_le 1 i) (dec_le i n)
-  where
-    go : Dec (1 ≤ i) → Dec (i ≤ n) → field n off l i ≡ 0
-    go (yes p) (yes q) = absurd (f p q)
-    go (yes p) (no q) = rw (le-leb 1 i p, lt-leb i n (omega arith), field)
-    go (no p) d = rw (lt-leb 1 i (omega arith), field)
+field_out = cell_out 0
 
 -- what holds of the cells, and of 0, holds of a row
 pub field-by : (P : ℕ → Type 0) (n off : ℕ) (l : List ℕ) (i : ℕ)

@@ -3,9 +3,13 @@ use Rattle.std.specs.Prelude.{ℕ, ◌+◌, ◌-◌, true, false, ◌&&◌, List
 use Rattle.rules.specs.Limit as Limit
 use Rattle.layout.specs.Layout as Layout
 
--- the cell of slot i, 1 to n, in the row that starts at off
-unfoldable pub field : ℕ → ℕ → List ℕ → ℕ → ℕ
-field n off l i = elim (leb 1 i && leb i n) [ true ↦ get_or l (off + i) 0 | false ↦ 0 ]
+-- the cell of slot i, 1 to n, in the row that starts at off, and `none` at any other i
+unfoldable pub cell_of : {A : Type 0} → A → ℕ → ℕ → List A → ℕ → A
+cell_of none n off l i = elim (leb 1 i && leb i n) [ true ↦ get_or l (off + i) none | false ↦ none ]
+
+-- the same of numbers, with 0 for none
+abbrev pub field : ℕ → ℕ → List ℕ → ℕ → ℕ
+field n off l i = cell_of 0 n off l i
 
 -- n cells from off on
 unfoldable pub region : ℕ → ℕ → List ℕ → List ℕ

@@ -8,13 +8,6 @@ ghost use Rattle.std.specs.Prelude.{◌≡◌};
 pub mod process;
 pub mod rows;
 
-// The slot that a link names.
-pub fn slot(link: u16) -> usize
-    ensures { result ≡ link }
-{
-    link as usize
-}
-
 // The last slot of a message.
 pub const MESSAGE_SLOTS: usize = 259;
 

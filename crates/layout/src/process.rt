@@ -7,22 +7,16 @@ ghost use Rattle.layout.specs.View.{is_process};
 ghost use Rattle.layout.specs.Sizes.{BytesLinks};
 ghost use Rattle.layout.specs.Sums.{Amount, sums_from};
 
-use crate::rows::word;
+use crate::rows::field;
 use crate::{FLAG, MASTER, MESSAGE_SLOTS, SUM};
 
 // Slot o holds a living process.
 pub fn is_process(bytes: &[u8], links: &[u16], o: usize) -> bool
-    requires fact_1 { BytesLinks bytes.now links.now }
-    requires fact_2 { o ≤ Limit.objects }
+    requires sizes { BytesLinks bytes.now links.now }
+    requires slot { o ≤ Limit.objects }
     ensures { result ≡ is_process (master_of links.now) (flag_of bytes.now) o }
 {
-    if o == 0 {
-        return false;
-    }
-    if links[MASTER + o] == 0 {
-        return false;
-    }
-    bytes[FLAG + o] != 0
+    o != 0 && links[MASTER + o] != 0 && bytes[FLAG + o] != 0
 }
 
 // The sums of n messages from slot i on. A count that was not checked is a byte, and there are no messages past the
@@ -32,12 +26,8 @@ pub fn sums_from(words: &[u32], n: usize, i: usize) -> u64
     ensures { Amount (Limit.word * 255) (sums_from words.now n i) result }
 {
     let mut total: u64 = 0;
-    let mut left = n;
-    let mut at = i;
-    while 0 < left {
-        total += word(words, MESSAGE_SLOTS, SUM, at) as u64;
-        at += 1;
-        left -= 1;
+    for at in i..i + n {
+        total += u64::from(field(words, MESSAGE_SLOTS, SUM, at));
     }
     total
 }

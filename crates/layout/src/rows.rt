@@ -1,42 +1,39 @@
 // A field by its slot: the cell of slot i, 1 to n, in the row that starts at off, and 0 at any other i.
 ghost use Rattle.std.specs.Prelude.{◌≡◌, ◌+◌, ◌<◌, length};
-ghost use Rattle.layout.specs.Rows.{field};
+ghost use Rattle.layout.specs.Rows.{cell_of};
 
-pub fn byte(bytes: &[u8], n: usize, off: usize, i: usize) -> u8
-    requires { off + n < length bytes.now }
-    ensures { result ≡ field n off bytes.now i }
-{
-    if i == 0 {
-        return 0;
-    }
-    if i > n {
-        return 0;
-    }
-    bytes[off + i]
+// What a cell of a row holds, and what stands for a slot that the row does not have.
+pub trait Cell: Copy {
+    ghost NONE: { Self };
+
+    const NONE: Self;
 }
 
-pub fn link(links: &[u16], n: usize, off: usize, i: usize) -> u16
-    requires { off + n < length links.now }
-    ensures { result ≡ field n off links.now i }
-{
-    if i == 0 {
-        return 0;
-    }
-    if i > n {
-        return 0;
-    }
-    links[off + i]
+impl Cell for u8 {
+    ghost NONE = { 0 };
+
+    const NONE: u8 = 0;
 }
 
-pub fn word(words: &[u32], n: usize, off: usize, i: usize) -> u32
-    requires { off + n < length words.now }
-    ensures { result ≡ field n off words.now i }
+impl Cell for u16 {
+    ghost NONE = { 0 };
+
+    const NONE: u16 = 0;
+}
+
+impl Cell for u32 {
+    ghost NONE = { 0 };
+
+    const NONE: u32 = 0;
+}
+
+pub fn field<T: Cell>(row: &[T], n: usize, off: usize, i: usize) -> T
+    requires { off + n < length row.now }
+    ensures { result ≡ cell_of T.NONE n off row.now i }
 {
-    if i == 0 {
-        return 0;
+    if 1 <= i && i <= n {
+        row[off + i]
+    } else {
+        T::NONE
     }
-    if i > n {
-        return 0;
-    }
-    words[off + i]
 }

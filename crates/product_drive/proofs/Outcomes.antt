@@ -10,13 +10,15 @@ use Rattle.rules.specs.Code as Code
 use Rattle.rules.proofs.Tests.{by_bool, by-eq}
 use Rattle.call_steps.specs.declared.request.Name.{Name}
 use Rattle.call_steps.specs.declared.request.Capability.{Capability}
-use Rattle.call_steps.specs.declared.request.Reply.{Reply}
+use Rattle.call_steps.specs.Request.{Reply}
 use Rattle.kernel_step.specs.Slices.{Slices}
 use Rattle.product_drive.specs.declared.repeat.Repeat.{Repeat}
 use Rattle.product_drive.specs.declared.repeat.Place.{Place}
 use Rattle.product_drive.specs.declared.picked.Picked.{Picked}
 use Rattle.product_drive.specs.Drive.{up_to, step_at, fits, start, place_after}
 use Rattle.product_drive.specs.Picks.{refused_pick, picked_by, unread, Picks}
+use Rattle.values.specs.Refusals.{code_of}
+use Rattle.call_steps.specs.Request.{count_of}
 
 -- ---- the place after a done pick
 
@@ -37,14 +39,14 @@ pub record Done (p : Repeat) (d : Place) (r : Picked) : Type 0 where
   pub step : r.step ≡ step_at p d.next
   pub place : r.place ≡ place_after p d
 
-pub picked-done : (p : Repeat) (d : Place) (r : Reply) → r.code ≡ Code.done
-    → picked_by p d r ≡ record { code = Code.done; step = step_at p d.next; place = place_after p d; count = r.count }
+pub picked-done : (p : Repeat) (d : Place) (r : Reply) → code_of r ≡ Code.done
+    → picked_by p d r ≡ record { code = Code.done; step = step_at p d.next; place = place_after p d; count = count_of r }
 unfolding picked_by
-picked-done p d r z = rw (eq-eqb r.code Code.done z, picked_by)
+picked-done p d r z = rw (eq-eqb (code_of r) Code.done z, picked_by)
 
-pub picked-refused : (p : Repeat) (d : Place) (r : Reply) → r.code ≢ Code.done → picked_by p d r ≡ refused_pick r.code d
+pub picked-refused : (p : Repeat) (d : Place) (r : Reply) → code_of r ≢ Code.done → picked_by p d r ≡ refused_pick (code_of r) d
 unfolding picked_by
-picked-refused p d r nz = rw (ne_eqb r.code Code.done nz, picked_by)
+picked-refused p d r nz = rw (ne_eqb (code_of r) Code.done nz, picked_by)
 
 module _ {A : Type 0} {p : Repeat} {d : Place} {r : Picked}
     (refused : eqb r.code Code.done ≡ false → r ≡ refused_pick r.code d → A)
@@ -56,7 +58,7 @@ module _ {A : Type 0} {p : Repeat} {d : Place} {r : Picked}
       refused (ne_eqb r.code Code.done (λ z. nz (sym code ∙ z))) (e ∙ ap (λ m. refused_pick m d) (sym code))
 
   by-reply : fits p d ≡ true → (y : Reply) → r ≡ picked_by p d y → A
-  by-reply f y e = by-eq y.code Code.done
+  by-reply f y e = by-eq (code_of y) Code.done
       (λ z.
       let q = e ∙ picked-done p d y z in
       done (eq-eqb r.code Code.done (ap (λ (x : Picked). x.code) q)) (record {
@@ -64,7 +66,7 @@ module _ {A : Type 0} {p : Repeat} {d : Place} {r : Picked}
         step = ap (λ (x : Picked). x.step) q;
         place = ap (λ (x : Picked). x.place) q;
       }))
-      (λ nz. by-refusal y.code nz (e ∙ picked-refused p d y nz))
+      (λ nz. by-refusal (code_of y) nz (e ∙ picked-refused p d y nz))
 
   pub picks_by : {caller : Name} {x : Capability} {was is : Slices} → Picks caller x p d r was is → A
   picks_by h = by_bool (fits p d)

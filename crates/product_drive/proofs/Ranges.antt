@@ -1,13 +1,24 @@
 -- What the tests of the ranges say.
-use Prim.Native.Nat.{◌-◌, ◌≤◌}
-use mathlib.Core.Path.{◌≡◌}
+use Prim.Native.Nat.{ℕ, ◌-◌, ◌≤◌}
+use mathlib.Core.Path.{◌≡◌, sym}
+use native.Mathlib.Omega.{arith}
+use Rattle.std.proofs.Common.{cond, is_le, Less, Equal, Greater}
 use mathlib.Core.Bool.{true, ◌&&◌}
-use lib.Dec.{leb, eqb}
-use borrow.Author.Tests.{leb-true, eqb-true}
-use Rattle.rules.proofs.Tests.{all2, all3}
+use lib.Dec.{leb, ltb, eqb}
+use borrow.Author.Tests.{leb-true, le-leb, lt-leb, ltb-true, ltb-false, eqb-true, eqb-false}
+use Rattle.rules.proofs.Tests.{by_bool, all2, all3}
 use Rattle.product_drive.specs.declared.repeat.Repeat.{Repeat}
 use Rattle.product_drive.specs.declared.repeat.Place.{Place}
 use Rattle.product_drive.specs.Drive.{max_picks, max_counts, max_row, up_to, repeat_fits, place_fits, fits, Within}
+
+-- what the library's `contains` computes of each end of a range
+pub within-end : (a b : ℕ)
+    → is_le (cond (ltb a b) Less (cond (eqb a b) Equal Greater)) ≡ leb a b
+within-end a b = by_bool (ltb a b)
+    (λ t. rw t (sym (le-leb a b (omega (arith, ltb-true a b t)))))
+    (λ f. by_bool (eqb a b)
+    (λ t. rw (f, t) (sym (le-leb a b (omega (arith, eqb-true a b t)))))
+    (λ n. rw (f, n) (sym (lt-leb a b (omega (arith, ltb-false a b f, eqb-false a b n))))))
 
 pub record InRange (p : Repeat) : Type 0 where
   pub some : 1 ≤ p.picks

@@ -8,6 +8,7 @@ use native.Mathlib.Omega.{arith}
 use lib.Dec.{leb}
 use borrow.Author.Tests.{le-leb, ne_eqb}
 use Rattle.rules.specs.Code as Code
+use Rattle.rules.specs.Store.{no_window}
 use Rattle.rules.specs.Rights.{op}
 use Rattle.rules.specs.Call.{Call, Answer, Outcome, code}
 use Rattle.rules.specs.Refusals as Refusals
@@ -22,12 +23,13 @@ use Rattle.values.specs.Words.{window_of}
 use Rattle.values.specs.declared.window.Window.{Window}
 use Rattle.call_steps.specs.declared.request.Name.{Name}
 use Rattle.call_steps.specs.declared.request.Capability.{Capability}
-use Rattle.call_steps.specs.declared.request.Reply.{Reply}
+use Rattle.call_steps.specs.Request.{Reply}
 use Rattle.call_steps.specs.Request.{name_of, capability_of, presenting_request, read_request, call_of, answer_of}
 use Rattle.call_steps.specs.Run.{overlay}
 use Rattle.kernel_step.specs.Slices.{Slices, state_of, call_on}
 use Rattle.kernel_step.specs.Steps.{front, Steps}
-use Rattle.question_window.specs.declared.Windowed.{Windowed}
+use Rattle.values.specs.declared.refusal.Refusal.{Refusal}
+use Rattle.std.specs.Prelude.{Ok, Err, Result}
 use Rattle.question_window.specs.Asks.{windowed_of, Asks}
 use Rattle.product_drive.specs.declared.repeat.Repeat.{Repeat}
 use Rattle.product_drive.specs.declared.repeat.Place.{Place}
@@ -38,6 +40,9 @@ use Rattle.product_drive.specs.Theorems.{Unpaid}
 use Rattle.product_drive.proofs.Ranges.{ranges, placed}
 use Rattle.product_drive.proofs.Rows.{one-row-more, rows-within, unread-asked, unread-length, unread-none, read_asked, read-holds}
 use Rattle.product_drive.proofs.Outcomes.{picked-done, picked-refused}
+use Rattle.values.specs.Refusals.{code_of}
+use Rattle.product_drive.specs.Picks.{told}
+use Rattle.call_steps.proofs.Replying.{answer-code, answer-bytes}
 
 -- ---- no call is made
 
@@ -58,19 +63,30 @@ unmade nz u =
 
 -- ---- the question
 
-module _ (was : Slices) (caller : Name) (x : Capability) (a : Windowed)
-    (h : Asks was.bytes was.links was.words caller x a) where
-  told : a.code ≢ Code.ill_formed → windowed_of a ≡ window_asked (state_of was) (name_of caller) (capability_of x)
-  told nz = h.asks (h.sound nz)
+-- an answer as the rules', field by field
+windowed-code : (a : Result Window Refusal) → (windowed_of a).code ≡ code_of a
+unfolding Questions.unwindowed no_window
+windowed-code (Ok window) = refl
+windowed-code (Err r) = refl
 
-  never-four : a.code ≢ Code.cannot_pay
+windowed-window : (a : Result Window Refusal) → (windowed_of a).window ≡ window_of (told a)
+unfolding Questions.unwindowed no_window
+windowed-window (Ok window) = refl
+windowed-window (Err r) = refl
+
+module _ (was : Slices) (caller : Name) (x : Capability) (a : Result Window Refusal)
+    (h : Asks was.bytes was.links was.words caller x a) where
+  answered : code_of a ≢ Code.ill_formed → windowed_of a ≡ window_asked (state_of was) (name_of caller) (capability_of x)
+  answered nz = h.asks (h.sound nz)
+
+  never-four : code_of a ≢ Code.cannot_pay
   never-four four =
       asked-free (state_of was) (name_of caller) (capability_of x)
-      (sym (ap (λ (w : Questions.Windowed). w.code) (told (λ one. omega arith))) ∙ four)
+      (sym (ap (λ (w : Questions.Windowed). w.code) (answered (λ one. omega arith))) ∙ windowed-code a ∙ four)
 
   unread-free : (p : Repeat) → unread p a ≢ Code.cannot_pay
-  unread-free p four = by-eq a.code Code.done
-      (λ z. by_bool (holds_repeat a.window p)
+  unread-free p four = by-eq (code_of a) Code.done
+      (λ z. by_bool (holds_repeat (told a) p)
       (λ y. omega (arith, four, unread-none p a z y))
       (λ n. omega (arith, four, unread-length p a z n)))
       (λ nz. never-four (sym (unread-asked p a nz) ∙ four))
@@ -89,24 +105,25 @@ row_inside v p d f h =
     (le-leb (v.start + d.next * p.row) v.end (omega (arith, within, more, (ranges p d f).row_low)))
 
 -- it is tried, and refused
-module _ (was is : Slices) (caller : Name) (x : Capability) (p : Repeat) (d : Place) (a : Windowed) (f : fits p d ≡ true)
+module _ (was is : Slices) (caller : Name) (x : Capability) (p : Repeat) (d : Place) (a : Result Window Refusal) (f : fits p d ≡ true)
     (q : Asks was.bytes was.links was.words caller x a) (z : unread p a ≡ Code.done) (y : Reply)
-    (S : Steps (call_on (read_request caller x (row_of a.window p d.next)) [] was) y was is) (nz : y.code ≢ Code.done) where
+    (S : Steps (call_on (read_request caller x (row_of (told a) p d.next)) [] was) y was is) (nz : code_of y ≢ Code.done) where
   abbrev c : Call
-  c = call_on (read_request caller x (row_of a.window p d.next)) [] was
+  c = call_on (read_request caller x (row_of (told a) p d.next)) [] was
 
   asked : window_asked (state_of was) (name_of caller) (capability_of x) ≡ windowed_of a
-  asked = sym (told was caller x a q (λ one. omega (arith, one, read_asked p a z)))
+  asked = sym (answered was caller x a q (λ one. omega (arith, one, read_asked p a z)))
 
   -- by none but 2, 3 and 4
-  low : y.code ≤ Code.cannot_pay
+  low : code_of y ≤ Code.cannot_pay
   unfolding call_of presenting_request answer_of op
   low =
-      let code_is : (rule (state_of was) c S.choice).answer.code ≡ y.code = ap (λ (o : Outcome). o.answer.code) S.rules in
+      let code_is : (rule (state_of was) c S.choice).answer.code ≡ code_of y = ap (λ (o : Outcome). o.answer.code) S.rules ∙ answer-code y _ in
       subst (λ n. n ≤ Code.cannot_pay) code_is
-      (read-inside (state_of was) c refl (ap (λ (w : Questions.Windowed). w.code) asked ∙ read_asked p a z)
-      (ap (λ (w : Questions.Windowed). lies_in (window_of (row_of a.window p d.next)) w.window) asked
-      ∙ row_inside a.window p d f (read-holds p a z))
+      (read-inside (state_of was) c refl (ap (λ (w : Questions.Windowed). w.code) asked ∙ windowed-code a ∙ read_asked p a z)
+      (ap (λ (w : Questions.Windowed). lies_in (window_of (row_of (told a) p d.next)) w.window) asked
+      ∙ ap (lies_in (window_of (row_of (told a) p d.next))) (windowed-window a)
+      ∙ row_inside (told a) p d f (read-holds p a z))
       S.choice (λ e. nz (sym code_is ∙ e)))
 
   no_bytes : front y is ≡ []
@@ -114,10 +131,10 @@ module _ (was is : Slices) (caller : Name) (x : Capability) (p : Repeat) (d : Pl
   no_bytes =
       let answer : (rule (state_of was) c S.choice).answer ≡ answer_of y (front y is) = ap (λ (o : Outcome). o.answer) S.rules in
       let refused = refused-rule (state_of was) c S.choice (ne_eqb _ Code.done
-      (λ e. nz (sym (ap (λ (n : Answer). n.code) answer) ∙ e))) in
-      ap (λ (n : Answer). n.bytes) (sym answer ∙ refused.others)
+      (λ e. nz (sym (answer-code y _) ∙ sym (ap (λ (n : Answer). n.code) answer) ∙ e))) in
+      sym (answer-bytes y _) ∙ ap (λ (n : Answer). n.bytes) (sym answer ∙ refused.others)
 
-  unpaid : Unpaid caller y.code was is
+  unpaid : Unpaid caller (code_of y) was is
   unfolding overlay call_of presenting_request Refusals.caller
   unpaid = record {
     nothing = λ four. S.refused.nothing (omega arith) (omega (arith, low, four));
@@ -136,7 +153,7 @@ refused-pick {caller} {x} {p} {d} {r} {was} {is} h nz = by_bool (fits p d)
     by-eq (unread p a.question) Code.done
     (λ z.
     let y = a.reads z in
-    by-eq y.reply.code Code.done
+    by-eq (code_of y.reply) Code.done
     (λ done. absurd (nz (ap (λ (v : Picked). v.code) (y.picked ∙ picked-done p d y.reply done))))
     (λ no. subst (λ n. Unpaid caller n was is)
     (sym (ap (λ (v : Picked). v.code) (y.picked ∙ picked-refused p d y.reply no)))

@@ -10,12 +10,15 @@ use Rattle.rules.specs.Code as Code
 use Rattle.rules.specs.Refusals.{◌when◌, first}
 use Rattle.rules.proofs.Tests.{by_bool, by-eq}
 use Rattle.values.specs.declared.window.Window.{Window}
-use Rattle.question_window.specs.declared.Windowed.{Windowed}
+use Rattle.values.specs.declared.refusal.Refusal.{Refusal}
+use Rattle.std.specs.Prelude.{Result}
 use Rattle.product_drive.specs.declared.repeat.Repeat.{Repeat}
 use Rattle.product_drive.specs.declared.repeat.Place.{Place}
 use Rattle.product_drive.specs.Drive.{fits, holds_repeat}
 use Rattle.product_drive.specs.Picks.{unread}
 use Rattle.product_drive.proofs.Ranges.{placed}
+use Rattle.values.specs.Refusals.{code_of}
+use Rattle.product_drive.specs.Picks.{told}
 
 -- ---- rows
 
@@ -32,24 +35,24 @@ rows-within v p d f h =
 
 -- ---- why no read is tried
 
-module _ (p : Repeat) (a : Windowed) where
-  pub unread-asked : a.code ≢ Code.done → unread p a ≡ a.code
+module _ (p : Repeat) (a : Result Window Refusal) where
+  pub unread-asked : code_of a ≢ Code.done → unread p a ≡ code_of a
   unfolding unread first ◌when◌
-  unread-asked nz = rw (ne_eqb a.code Code.done nz)
+  unread-asked nz = rw (ne_eqb (code_of a) Code.done nz)
 
-  module _ (z : a.code ≡ Code.done) where
-    pub unread-length : holds_repeat a.window p ≡ false → unread p a ≡ Code.wrong_length
+  module _ (z : code_of a ≡ Code.done) where
+    pub unread-length : holds_repeat (told a) p ≡ false → unread p a ≡ Code.wrong_length
     unfolding unread first ◌when◌
-    unread-length h = rw (eq-eqb a.code Code.done z, h)
+    unread-length h = rw (eq-eqb (code_of a) Code.done z, h)
 
-    pub unread-none : holds_repeat a.window p ≡ true → unread p a ≡ Code.done
+    pub unread-none : holds_repeat (told a) p ≡ true → unread p a ≡ Code.done
     unfolding unread first ◌when◌
-    unread-none h = rw (eq-eqb a.code Code.done z, h)
+    unread-none h = rw (eq-eqb (code_of a) Code.done z, h)
 
   -- the question is answered, and the window is N × W bytes long
-  pub read_asked : unread p a ≡ Code.done → a.code ≡ Code.done
-  read_asked h = by-eq a.code Code.done (λ z. z) (λ nz. absurd (nz (sym (unread-asked nz) ∙ h)))
+  pub read_asked : unread p a ≡ Code.done → code_of a ≡ Code.done
+  read_asked h = by-eq (code_of a) Code.done (λ z. z) (λ nz. absurd (nz (sym (unread-asked nz) ∙ h)))
 
-  pub read-holds : unread p a ≡ Code.done → holds_repeat a.window p ≡ true
-  read-holds h = by_bool (holds_repeat a.window p) (λ y. y)
+  pub read-holds : unread p a ≡ Code.done → holds_repeat (told a) p ≡ true
+  read-holds h = by_bool (holds_repeat (told a) p) (λ y. y)
       (λ n. absurd (omega (arith, h, unread-length (read_asked h) n)))

@@ -6,19 +6,48 @@ ghost use Rattle.layout.specs.WellFormed.{WellFormed};
 ghost use Rattle.kernel_step.specs.Slices.{slices};
 ghost use Rattle.product_drive.specs.Picks.{Picks};
 
+mod access;
 mod limit;
 pub mod picked;
 pub mod repeat;
 mod row;
 
+use access::{Access, Checked, Unchecked};
 use call_steps::request::{Capability, Name};
-use kernel_call::call;
-use kernel_step::step;
 use picked::Picked;
-use question_window::{ask_window, window_of};
 use repeat::{Place, Repeat};
-use row::{row_request, unread};
-use values::code::{DONE, OUT_OF_RANGE};
+use row::{readable, row_request};
+use values::refusal::Refusal;
+
+// A pick on a store that the access is for.
+fn pick_by<A: Access>(
+    bytes: &mut [u8],
+    links: &mut [u16],
+    words: &mut [u32],
+    buffer: &mut [u8],
+    caller: Name,
+    x: Capability,
+    repeat: Repeat,
+    place: Place,
+) -> Picked
+    requires { A.serves bytes.old links.old words.old }
+    ensures { Picks caller x repeat place result
+        (slices bytes.old links.old words.old buffer.old [])
+        (slices bytes.new links.new words.new buffer.new []) }
+{
+    if !repeat.fits(place) {
+        return Picked::refused(Refusal::OutOfRange, place);
+    }
+    let answer = A::ask(bytes, links, words, caller, x);
+    match readable(repeat, answer) {
+        Ok(window) => {
+            let req = row_request(caller, x, window, repeat, place);
+            let r = A::call(bytes, links, words, buffer, req);
+            Picked::by(repeat, place, r)
+        }
+        Err(refusal) => Picked::refused(refusal, place),
+    }
+}
 
 // A pick on any store.
 pub fn pick(
@@ -35,18 +64,7 @@ pub fn pick(
         (slices bytes.old links.old words.old buffer.old [])
         (slices bytes.new links.new words.new buffer.new []) }
 {
-    if repeat.fits(place) {
-        let a = ask_window(bytes, links, words, caller, x);
-        let code = unread(repeat, a);
-        if code == DONE {
-            let req = row_request(caller, x, a.window, repeat, place);
-            let mut scratch: [u16; 0] = [];
-            let r = call(bytes, links, words, b"", buffer, &mut scratch, req);
-            return Picked::by(repeat, place, r);
-        }
-        return Picked::refused(code, place);
-    }
-    Picked::refused(OUT_OF_RANGE, place)
+    pick_by::<Checked>(bytes, links, words, buffer, caller, x, repeat, place)
 }
 
 // The same on a store that is known to be well formed: as `step` is to `call`.
@@ -65,16 +83,5 @@ pub fn pick_unchecked(
         (slices bytes.old links.old words.old buffer.old [])
         (slices bytes.new links.new words.new buffer.new []) }
 {
-    if repeat.fits(place) {
-        let a = window_of(bytes, links, words, caller, x);
-        let code = unread(repeat, a);
-        if code == DONE {
-            let req = row_request(caller, x, a.window, repeat, place);
-            let mut scratch: [u16; 0] = [];
-            let r = step(bytes, links, words, b"", buffer, &mut scratch, req);
-            return Picked::by(repeat, place, r);
-        }
-        return Picked::refused(code, place);
-    }
-    Picked::refused(OUT_OF_RANGE, place)
+    pick_by::<Unchecked>(bytes, links, words, buffer, caller, x, repeat, place)
 }

@@ -5,7 +5,7 @@ ghost use Rattle.product_drive.specs.Drive.{up_to, step_at, repeat_fits, Within,
 use crate::limit::{MAX_COUNTS, MAX_PICKS, MAX_ROW};
 
 // N picks, C motor counts, W bytes a row.
-#[derive(Clone, Copy)]
+#[derive(Clone, Copy, Debug, PartialEq, Eq)]
 pub struct Repeat {
     pub picks: u32,
     pub counts: u32,
@@ -13,7 +13,7 @@ pub struct Repeat {
 }
 
 // The next pick, counted from 1 within the repeat, and the steps so far.
-#[derive(Clone, Copy)]
+#[derive(Clone, Copy, Debug, PartialEq, Eq)]
 pub struct Place {
     pub next: u32,
     pub steps: u32,
@@ -33,19 +33,9 @@ impl Repeat {
     fn in_range(self) -> bool
         ensures { result ≡ repeat_fits self }
     {
-        if self.picks == 0 {
-            return false;
-        }
-        if self.picks > MAX_PICKS {
-            return false;
-        }
-        if self.counts > MAX_COUNTS {
-            return false;
-        }
-        if self.row == 0 {
-            return false;
-        }
-        self.row <= MAX_ROW
+        (1..=MAX_PICKS).contains(&self.picks)
+            && self.counts <= MAX_COUNTS
+            && (1..=MAX_ROW).contains(&self.row)
     }
 
     // The whole part of i × C / N. The product is below 2 to the power 40.
@@ -53,8 +43,7 @@ impl Repeat {
         requires { Within self i }
         ensures { result ≡ up_to self i }
     {
-        let product = (i as u64) * (self.counts as u64);
-        (product / (self.picks as u64)) as u32
+        (u64::from(i) * u64::from(self.counts) / u64::from(self.picks)) as u32
     }
 
     // The place is one of this repeat.
@@ -62,24 +51,14 @@ impl Repeat {
         requires { repeat_fits self ≡ true }
         ensures { result ≡ place_fits self place }
     {
-        if place.next == 0 {
-            return false;
-        }
-        if place.next > self.picks {
-            return false;
-        }
-        place.steps == self.up_to(place.next - 1)
+        (1..=self.picks).contains(&place.next) && place.steps == self.up_to(place.next - 1)
     }
 
     // Repeat and place are in their ranges.
     pub(crate) fn fits(self, place: Place) -> bool
         ensures { result ≡ fits self place }
     {
-        if self.in_range() {
-            self.has(place)
-        } else {
-            false
-        }
+        self.in_range() && self.has(place)
     }
 
     // The take-up step of the pick at this place.

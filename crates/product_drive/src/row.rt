@@ -1,13 +1,13 @@
 // A row of the presented capability's window, and its paid read.
-ghost use Rattle.std.specs.Prelude.{◌≡◌, true};
+ghost use Rattle.std.specs.Prelude.{◌≡◌, true, IfOk};
+ghost use Rattle.values.specs.Refusals.{code_of};
 ghost use Rattle.call_steps.specs.Request.{read_request};
 ghost use Rattle.product_drive.specs.Drive.{repeat_fits, fits, holds_repeat, row_of};
-ghost use Rattle.product_drive.specs.Picks.{unread};
+ghost use Rattle.product_drive.specs.Picks.{unread, told};
 
 use crate::repeat::{Place, Repeat};
 use call_steps::request::{Capability, Name, Request};
-use question_window::Windowed;
-use values::code::{DONE, WRONG_LENGTH};
+use values::refusal::Refusal;
 use values::window::Window;
 
 // The window is N × W bytes long.
@@ -15,24 +15,21 @@ fn holds_repeat(window: Window, repeat: Repeat) -> bool
     requires { repeat_fits repeat ≡ true }
     ensures { result ≡ holds_repeat window repeat }
 {
-    if window.start <= window.end {
-        return window.end - window.start == repeat.picks * repeat.row;
-    }
-    false
+    window.start <= window.end && window.end - window.start == repeat.picks * repeat.row
 }
 
-// Why no read is tried: the question's own refusal, then 17; 0 where it is tried.
-pub(crate) fn unread(repeat: Repeat, a: Windowed) -> u32
+// The window of which a row is to be read: none where the question refused, by 17 where it is not as long as the repeat.
+pub(crate) fn readable(repeat: Repeat, answer: Result<Window, Refusal>) -> Result<Window, Refusal>
     requires { repeat_fits repeat ≡ true }
-    ensures { result ≡ unread repeat a }
+    ensures code { code_of result ≡ unread repeat answer }
+    ensures window { IfOk result (λ window. window ≡ told answer) }
 {
-    if a.code == DONE {
-        if holds_repeat(a.window, repeat) {
-            return DONE;
-        }
-        return WRONG_LENGTH;
+    let window = answer?;
+    if holds_repeat(window, repeat) {
+        Ok(window)
+    } else {
+        Err(Refusal::WrongLength)
     }
-    a.code
 }
 
 // The read of the row of the pick at this place.
@@ -49,7 +46,7 @@ pub(crate) fn row_request(
 {
     let start = window.start + (place.next - 1) * repeat.row;
     let row = Window {
-        start: start,
+        start,
         end: start + repeat.row,
     };
     Request::read(caller, x, row)

@@ -15,8 +15,7 @@ use Rattle.rules.specs.Refusals.{transfer_fits, arguments_fit, in_range}
 use Rattle.rules.proofs.Tests.{by_bool, all2}
 use Rattle.rules.proofs.Outcomes.{host-not}
 use Rattle.call_steps.specs.declared.request.Request.{Request}
-use Rattle.call_steps.specs.declared.request.Reply.{Reply}
-use Rattle.call_steps.specs.Request.{call_of}
+use Rattle.call_steps.specs.Request.{Reply, call_of, count_of}
 use Rattle.call_steps.specs.Run.{over}
 use Rattle.call_enter.proofs.Stepping.{two_run}
 use Rattle.kernel_step.specs.Slices.{Slices, slices, call_on}
@@ -89,6 +88,11 @@ unfolding turned_front turned turned_tiles
 front-none zero = refl
 front-none (suc n) = refl
 
+-- of a refusal no byte is turned
+pub front-unread : (l : List ℕ) → l ≡ turned_front 0 l
+unfolding turned_front turned turned_tiles
+front-unread l = refl
+
 -- n bytes of text copied to the front of an array, and turned there
 front-copied : (n : ℕ) (text front rest now : List ℕ) → n ≡ length text
     → front ≡ text → now ≡ turned_front n (front ++ rest) → take n now ≡ turned text
@@ -111,7 +115,7 @@ module _ {p q : Request} (asks : p ≡ q) {r : Reply} {b l w b' l' w' : List ℕ
     call = subst (λ x. Calls x (turned text) r (slices b l w [] []) (slices b' l' w' [] [])) asks
         (subst (λ x. Calls p (turned text) r (slices b l w [] []) (slices b' l' w' x [])) (no_cells buffer nb)
         (subst (λ x. Calls p (turned text) r (slices b l w [] []) (slices b' l' w' buffer x)) (no_cells scratch ns) c));
-    leaves = λ i. slices b' l' w' (sym (front-none r.count) i) [];
+    leaves = λ i. slices b' l' w' (sym (front-none (count_of r)) i) [];
   }
 
   pub hooked-short : (rest : List ℕ) {n : ℕ} {text front now buffer scratch : List ℕ} → n ≡ length text
@@ -132,7 +136,7 @@ module _ {p q : Request} (asks : p ≡ q) {r : Reply} {b l w b' l' w' : List ℕ
   -- of a call without a text, whose buffer was turned after it
   pub hooked-out : {buffer buffer' buffer'' scratch : List ℕ} → length scratch ≡ 0
       → Calls p [] r (slices b l w buffer []) (slices b' l' w' buffer' scratch)
-      → buffer'' ≡ turned_front r.count buffer'
+      → buffer'' ≡ turned_front (count_of r) buffer'
       → Hooked q [] r (slices b l w buffer []) (slices b' l' w' buffer'' [])
   unfolding handed_over turned turned_tiles
   hooked-out {buffer} {buffer'} {buffer''} {scratch} ns c e = record {

@@ -88,9 +88,6 @@ tile-more (suc n) l h =
 
 -- ---- a loop that has turned k tiles
 
-pub same_size : (l m : List ℕ) (k : ℕ) → 8 * k ≤ length l → m ≡ turned_tiles k l → length m ≡ length l
-same_size l m k h e = ap length e ∙ length-tiles k l h
-
 pub turned_more : (l m r : List ℕ) (k : ℕ) → 8 * k ≤ length l → m ≡ turned_tiles k l → r ≡ turned_at (k * 8) m → r ≡ turned_tiles (k + 1) l
 turned_more l m r k h e f =
     f ∙ let z : k * 8 ≡ 8 * k = omega arith in ap₂ turned_at z e

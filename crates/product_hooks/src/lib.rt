@@ -68,8 +68,7 @@ pub fn read_by_hook(
 {
     let req = Request::read(caller, x, range);
     let mut scratch: [u16; 0] = [];
-    let r = call(bytes, links, words, b"", buffer, &mut scratch, req);
-    let count = r.count as usize;
-    turn_front(buffer, count);
-    r
+    let given = call(bytes, links, words, b"", buffer, &mut scratch, req)?;
+    turn_front(buffer, given.count as usize);
+    Ok(given)
 }

@@ -8,11 +8,8 @@ use crate::tile::turn_at;
 pub fn turn(pattern: &mut [u8])
     ensures { pattern.new ≡ turned pattern.old }
 {
-    let tiles = pattern.len() / 8;
-    let mut k: usize = 0;
-    while k < tiles {
+    for k in 0..pattern.len() / 8 {
         turn_at(pattern, k * 8);
-        k += 1;
     }
 }
 

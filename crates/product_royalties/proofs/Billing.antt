@@ -12,8 +12,8 @@ use Rattle.rules.specs.Code as Code
 use Rattle.call_steps.specs.declared.request.Name.{Name}
 use Rattle.call_steps.specs.declared.request.Capability.{Capability}
 use Rattle.call_steps.specs.declared.request.Request.{Request}
-use Rattle.call_steps.specs.declared.request.Reply.{Reply}
-use Rattle.call_steps.specs.Request.{withdraw_request}
+use Rattle.values.specs.Refusals.{code_of}
+use Rattle.call_steps.specs.Request.{Reply, withdraw_request}
 use Rattle.kernel_step.specs.Slices.{Slices, slices}
 use Rattle.kernel_call.specs.Calls.{Calls}
 use Rattle.kernel_call.proofs.Calling.{no_cells}
@@ -24,13 +24,13 @@ use Rattle.product_royalties.specs.Bills.{done_bill, refused_bill, billed_by, Bi
 -- ---- what is handed back
 
 module _ (p total sum : ℕ) (y : Reply) where
-  pub billed-done : y.code ≡ Code.done → billed_by p total sum y ≡ done_bill total sum
+  pub billed-done : code_of y ≡ Code.done → billed_by p total sum y ≡ done_bill total sum
   unfolding billed_by
-  billed-done z = rw (eq-eqb y.code Code.done z, billed_by)
+  billed-done z = rw (eq-eqb (code_of y) Code.done z, billed_by)
 
-  pub billed-refused : y.code ≢ Code.done → billed_by p total sum y ≡ refused_bill y.code p
+  pub billed-refused : code_of y ≢ Code.done → billed_by p total sum y ≡ refused_bill (code_of y) p
   unfolding billed_by
-  billed-refused nz = rw (ne_eqb y.code Code.done nz, billed_by)
+  billed-refused nz = rw (ne_eqb (code_of y) Code.done nz, billed_by)
 
 -- ---- the two ways that it goes
 
@@ -65,7 +65,7 @@ module _ {A : Type 0} (p n : ℕ) (r : Billed) (done : r ≡ done_bill (p + n) (
 
   pub bills-by : {caller : Name} {x : Capability} {was is : Slices} → Bills caller x p n r was is → A
   bills-by h = by_bool (leb (p + n) max_count)
-      (λ t. let w = h.withdraws (leb-true (p + n) max_count t) in by-eq w.reply.code Code.done
+      (λ t. let w = h.withdraws (leb-true (p + n) max_count t) in by-eq (code_of w.reply) Code.done
       (λ z. done (w.billed ∙ billed-done p (p + n) (bill_for p n) w.reply z))
-      (λ nz. by-refusal w.reply.code nz (w.billed ∙ billed-refused p (p + n) (bill_for p n) w.reply nz)))
+      (λ nz. by-refusal (code_of w.reply) nz (w.billed ∙ billed-refused p (p + n) (bill_for p n) w.reply nz)))
       (λ t. by-refusal Code.count_passes (λ z. omega arith) (h.passes (leb-false (p + n) max_count t)).billed)

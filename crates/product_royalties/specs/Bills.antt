@@ -3,8 +3,8 @@ use Rattle.std.specs.Prelude.{ℕ, ◌+◌, ◌≤◌, ◌<◌, ◌≡◌, true,
 use Rattle.rules.specs.Code as Code
 use Rattle.call_steps.specs.declared.request.Name.{Name}
 use Rattle.call_steps.specs.declared.request.Capability.{Capability}
-use Rattle.call_steps.specs.declared.request.Reply.{Reply}
-use Rattle.call_steps.specs.Request.{withdraw_request}
+use Rattle.values.specs.Refusals.{code_of}
+use Rattle.call_steps.specs.Request.{Reply, withdraw_request}
 use Rattle.kernel_step.specs.Slices.{Slices}
 use Rattle.kernel_call.specs.Calls.{Calls}
 use Rattle.product_royalties.specs.declared.billed.Billed.{Billed}
@@ -21,7 +21,7 @@ refused_bill code p = record { code = code; count = p; sum = 0 }
 
 -- by the reply to the withdraw of the sum: "A done bill hands back p + n, a refused one p."
 unfoldable pub billed_by : (p total sum : ℕ) → Reply → Billed
-billed_by p total sum r = elim (eqb r.code Code.done) [ true ↦ done_bill total sum | false ↦ refused_bill r.code p ]
+billed_by p total sum r = elim (eqb (code_of r) Code.done) [ true ↦ done_bill total sum | false ↦ refused_bill (code_of r) p ]
 
 -- ---- the promise
 

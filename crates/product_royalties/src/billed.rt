@@ -1,12 +1,14 @@
 // What a bill hands back.
 ghost use Rattle.std.specs.Prelude.{◌≡◌};
+ghost use Rattle.values.specs.Refusals.{number_of};
 ghost use Rattle.product_royalties.specs.Bills.{refused_bill, billed_by};
 
 use call_steps::request::Reply;
-use values::code::DONE;
+use values::refusal::{DONE, Refusal};
 
 // 0 or the refusal; the count for the next bill; what was taken.
-#[derive(Clone, Copy)]
+// kept: the code as a number beside the others, since `bills-add-up` speaks of the count that a refusal hands back, too
+#[derive(Clone, Copy, Debug, PartialEq, Eq)]
 pub struct Billed {
     pub code: u32,
     pub count: u32,
@@ -15,12 +17,12 @@ pub struct Billed {
 
 impl Billed {
     // A refusal hands back the count that it was passed.
-    pub(crate) fn refused(code: u32, count: u32) -> Billed
-        ensures { result ≡ refused_bill code count }
+    pub(crate) fn refused(refusal: Refusal, count: u32) -> Billed
+        ensures { result ≡ refused_bill (number_of refusal) count }
     {
         Billed {
-            code,
-            count: count,
+            code: u32::from(refusal),
+            count,
             sum: 0,
         }
     }
@@ -29,13 +31,13 @@ impl Billed {
     pub(crate) fn by(count: u32, total: u32, sum: u32, r: Reply) -> Billed
         ensures { result ≡ billed_by count total sum r }
     {
-        if r.code == DONE {
-            return Billed {
+        match r {
+            Ok(_) => Billed {
                 code: DONE,
                 count: total,
-                sum: sum,
-            };
+                sum,
+            },
+            Err(refusal) => Billed::refused(refusal, count),
         }
-        Billed::refused(r.code, count)
     }
 }

@@ -9,14 +9,14 @@ fn thousandths(p: u32) -> u64
     ensures { result ≡ thousandths p }
 {
     if p <= FIRST_PICKS {
-        return (p as u64) * FIRST_RATE;
+        return u64::from(p) * FIRST_RATE;
     }
-    let first = (FIRST_PICKS as u64) * FIRST_RATE;
+    let first = u64::from(FIRST_PICKS) * FIRST_RATE;
     if p <= NEXT_PICKS {
-        return first + ((p - FIRST_PICKS) as u64) * NEXT_RATE;
+        return first + u64::from(p - FIRST_PICKS) * NEXT_RATE;
     }
-    let next = ((NEXT_PICKS - FIRST_PICKS) as u64) * NEXT_RATE;
-    first + next + ((p - NEXT_PICKS) as u64) * LAST_RATE
+    let next = u64::from(NEXT_PICKS - FIRST_PICKS) * NEXT_RATE;
+    first + next + u64::from(p - NEXT_PICKS) * LAST_RATE
 }
 
 // Their charge, in whole credits.

@@ -15,7 +15,7 @@ use call_steps::request::{Capability, Name, Request};
 use charge::bill_for;
 use kernel_call::call;
 use limit::MAX_COUNT;
-use values::code::COUNT_PASSES;
+use values::refusal::Refusal;
 
 // A bill for so many picks more of a pattern, whose count is passed in, on any store.
 pub fn bill(
@@ -32,7 +32,7 @@ pub fn bill(
         (slices bytes.new links.new words.new [] []) }
 {
     if picks > MAX_COUNT - count {
-        return Billed::refused(COUNT_PASSES, count);
+        return Billed::refused(Refusal::CountPasses, count);
     }
     let total = count + picks;
     let sum = bill_for(count, picks);

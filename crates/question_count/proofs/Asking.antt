@@ -11,18 +11,11 @@ use Rattle.rules.specs.Store as Store
 use Rattle.rules.specs.Store.{State, object_named}
 use Rattle.rules.specs.Rights.{is_right}
 use Rattle.rules.specs.Refusals.{◌when◌, first, name_fits}
-use Rattle.rules.specs.Questions as Questions
 use Rattle.rules.specs.Questions.{opening, count_refuses, uncounted, counted_by, passwords_asked}
 use Rattle.rules.proofs.Tests.{by_bool}
 use Rattle.layout.specs.Rows.{master_of, flag_of}
 use Rattle.layout.specs.View.{is_process, view}
 use Rattle.layout.proofs.Shown.{process-is, process-lives, object-shown}
-use Rattle.question_count.specs.declared.Counted.{Counted}
-use Rattle.question_count.specs.Asks.{counted_of}
-
-pub refused-one : (r : Counted) → counted_of r ≡ uncounted Code.ill_formed → r.code ≡ Code.ill_formed
-unfolding uncounted
-refused-one r e = ap (λ (a : Questions.Counted). a.code) e
 
 -- a living process, by the cells
 pub caller-is : (b l w : List ℕ) (o : ℕ)

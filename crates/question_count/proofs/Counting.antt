@@ -1,5 +1,5 @@
 -- As many passwords open the object named as the program counts at its slot; and what one slot adds, by its cells.
-use Prim.Native.Nat.{ℕ, ◌≤◌}
+use Prim.Native.Nat.{ℕ, zero, suc, ◌+◌, ◌-◌, ◌≤◌}
 use mathlib.Core.Path.{◌≡◌, sym, ap, ◌∙◌}
 use mathlib.Core.Logic.{◌≢◌}
 use mathlib.Core.Bool.{Bool, true, false, not, ◌&&◌, and-false}
@@ -8,7 +8,7 @@ use native.Mathlib.Omega.{arith}
 use lib.Dec.{eqb}
 use borrow.Author.Tests.{eqb-true, eq-eqb, ne_eqb}
 use Rattle.rules.specs.Limit as Limit
-use Rattle.rules.specs.Slots.{one, count_over}
+use Rattle.rules.specs.Slots.{one, sum_over, count_over}
 use Rattle.rules.specs.Store.{Name, State, same_name, cap_lives, object_named}
 use Rattle.rules.specs.Valid.{Valid}
 use Rattle.rules.specs.Rights.{has}
@@ -69,20 +69,36 @@ holding-none s o right z = sym (sum-zero Limit.caps (λ i. one (holds s o right 
 
 module _ (b l w : List ℕ) (i o right : ℕ) where
   -- it is another object's, or free
-  pub held-not : owner_of l i ≢ o → 0 ≡ one (holds (view b l w) o right i)
-  unfolding holds one
+  pub held-not : owner_of l i ≢ o → false ≡ holds (view b l w) o right i
+  unfolding holds
   held-not ne = rw (cap-object b l w i, ne_eqb (owner_of l i) o ne, and-false (cap_lives (view b l w) i))
 
   -- it is the object's, and is not expired and holds the right as t says
   pub held_by : owner_of l i ≡ o → o ≢ 0 → (t : Bool)
       → (not (expired (view b l w) i) && has ((view b l w).cap i).rights right) ≡ t
-      → one t ≡ one (holds (view b l w) o right i)
+      → t ≡ holds (view b l w) o right i
   unfolding holds
   held_by e nz t h =
       let q : ((view b l w).cap i).object ≡ o = cap-object b l w i ∙ e in
       rw (does-live (view b l w) i (λ z. nz (sym q ∙ z)), eq-eqb ((view b l w).cap i).object o q, h)
 
-pub one-most : (t : Bool) → one t ≤ 1
+-- ---- slots are counted, of n at most n
+one-most : (t : Bool) → one t ≤ 1
 unfolding one
 one-most true = omega arith
 one-most false = omega arith
+
+pub count-most : (n : ℕ) (t : ℕ → Bool) → count_over n t ≤ n
+unfolding count_over sum_over
+count-most zero t = omega arith
+count-most (suc n) t = omega (arith, one-most (t (suc n)), count-most n t)
+
+-- those below i: n up to the one before, m with it
+pub count-next : (t : ℕ → Bool) (i n m : ℕ) → 1 ≤ i → n ≡ count_over (i - 1) t → m ≡ n + one (t i)
+    → m ≡ count_over (i + 1 - 1) t
+unfolding count_over sum_over
+count-next t zero n m low e f = absurd (omega arith)
+count-next t (suc i) n m low e f =
+    let a : suc i - 1 ≡ i = omega arith in
+    let b : suc i + 1 - 1 ≡ suc i = omega arith in
+    rw b (omega (arith, rw a at e, f))

@@ -4,8 +4,7 @@
 #![tactic(auto)]
 
 ghost use Rattle.std.specs.Prelude.{◌≡◌, ◌≢◌, List, ℕ, length};
-ghost use Rattle.rules.specs.Slots.{one};
-ghost use Rattle.rules.specs.Questions.{uncounted, passwords_asked};
+ghost use Rattle.rules.specs.Questions.{passwords_asked};
 ghost use Rattle.layout.specs.Layout;
 ghost use Rattle.layout.specs.View.{view};
 ghost use Rattle.layout.specs.WellFormed.{Plain};
@@ -19,59 +18,33 @@ use call_steps::present::{expired, right_held};
 use call_steps::ranges::name_fits;
 use call_steps::request::Name;
 use kernel_check::check;
+use layout::OWNER;
 use layout::process::is_process;
-use layout::{OWNER, slot};
-use values::code::{DONE, ILL_FORMED, NOT_RUNNING, OUT_OF_RANGE};
 use values::limit::MAX_CAPS;
+use values::refusal::Refusal;
 use values::rights::Rights;
 
-// 0 or the refusal, and the number; a refusal's is 0.
-#[derive(Clone, Copy)]
-pub struct Counted {
-    pub code: u32,
-    pub count: u32,
-}
-
-// A refusal.
-fn refuse(code: u32) -> Counted
-    ensures { counted_of result ≡ uncounted code }
+// Slot i holds a capability of the object in slot o that is not expired and holds the right.
+fn holds(links: &[u16], i: usize, o: usize, right: Rights) -> bool
+    requires sized { length links.now ≡ Layout.LINKS }
+    requires slot { CapSlot i }
+    requires some { o ≢ 0 }
+    ensures { (b w : List ℕ) → result ≡ holds (view b links.now w) o right.0 i }
 {
-    Counted { code, count: 0 }
+    usize::from(links[OWNER + i]) == o && !expired(links, i) && right_held(links, i, right)
 }
 
-// How many passwords there are by slot i: 1 where it holds a capability of the object in slot o that is not expired and holds
-// the right, else 0.
-fn held_at(links: &[u16], i: usize, o: usize, right: Rights) -> u32
-    requires fact_1 { length links.now ≡ Layout.LINKS }
-    requires fact_2 { CapSlot i }
-    requires fact_3 { o ≢ 0 }
-    ensures { (b w : List ℕ) → result ≡ one (holds (view b links.now w) o right.0 i) }
-{
-    if slot(links[OWNER + i]) == o {
-        if expired(links, i) {
-            return 0;
-        }
-        if right_held(links, i, right) {
-            return 1;
-        }
-        return 0;
-    }
-    0
-}
-
-// How many capabilities of the object in slot o are not expired and hold the right; an absent object has none.
+// How many capabilities of the object in slot o are not expired and hold the right.
 fn held(links: &[u16], o: usize, right: Rights) -> u32
-    requires { length links.now ≡ Layout.LINKS }
+    requires sized { length links.now ≡ Layout.LINKS }
+    requires some { o ≢ 0 }
     ensures { (b w : List ℕ) → result ≡ holding_at (view b links.now w) o right.0 }
 {
-    if o == 0 {
-        return 0;
-    }
-    let mut count: u32 = 0;
-    let mut i: usize = MAX_CAPS;
-    while 0 < i {
-        count += held_at(links, i, o, right);
-        i -= 1;
+    let mut count = 0;
+    for i in 1..=MAX_CAPS {
+        if holds(links, i, o, right) {
+            count += 1;
+        }
     }
     count
 }
@@ -84,23 +57,24 @@ pub fn count_of(
     caller: Name,
     object: Name,
     right: u32,
-) -> Counted
+) -> Result<u32, Refusal>
     requires { Plain bytes.now links.now words.now }
     ensures { counted_of result
         ≡ passwords_asked (view bytes.now links.now words.now) (name_of caller) (name_of object) right }
 {
-    if Rights::is_right(right) & name_fits(caller) & name_fits(object) {
-        let me = find_object(bytes, links, caller);
-        if is_process(bytes, links, me) {
-            let o = find_object(bytes, links, object);
-            return Counted {
-                code: DONE,
-                count: held(links, o, Rights(right as u16)),
-            };
-        }
-        return refuse(NOT_RUNNING);
+    if !Rights::is_right(right) || !name_fits(caller) || !name_fits(object) {
+        return Err(Refusal::OutOfRange);
     }
-    refuse(OUT_OF_RANGE)
+    let Some(me) = find_object(bytes, links, caller) else {
+        return Err(Refusal::NotRunning);
+    };
+    if !is_process(bytes, links, me) {
+        return Err(Refusal::NotRunning);
+    }
+    let Some(o) = find_object(bytes, links, object) else {
+        return Ok(0);
+    };
+    Ok(held(links, o, Rights(right as u16)))
 }
 
 // The same on slices of any length and content.
@@ -111,11 +85,11 @@ pub fn ask_count(
     caller: Name,
     object: Name,
     right: u32,
-) -> Counted
+) -> Result<u32, Refusal>
     ensures { Asks bytes.now links.now words.now caller object right result }
 {
-    if check(bytes, links, words) {
-        return count_of(bytes, links, words, caller, object, right);
+    if !check(bytes, links, words) {
+        return Err(Refusal::IllFormed);
     }
-    refuse(ILL_FORMED)
+    count_of(bytes, links, words, caller, object, right)
 }

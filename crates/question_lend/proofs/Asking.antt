@@ -17,18 +17,12 @@ use Rattle.rules.specs.Call.{Capability}
 use Rattle.rules.specs.Refusals.{◌when◌, first, name_fits, running, showing}
 use Rattle.rules.specs.Questions as Questions
 use Rattle.rules.specs.Questions.{shown_slot, Wish, Lends, entries, entry, list_fits, wish_fits, lend_refuses, unlent}
-use Rattle.rules.specs.Questions.{LendAsked}
+use Rattle.rules.specs.Questions.{FirstOf, NoneOf, LendAsked}
 use Rattle.rules.specs.Theorems.{lendable, LendDecided}
 use Rattle.rules.proofs.Tests.{both_true, all2, all3}
 use Rattle.rules.proofs.Theorems.{lend-decided}
-use Rattle.question_lend.specs.declared.Lent.{Lent}
-use Rattle.question_lend.specs.Asks.{lent_of}
-use Rattle.question_lend.specs.Places.{will_do, Finds}
+use Rattle.question_lend.specs.Places.{will_do}
 use Rattle.question_lend.proofs.Listing.{names}
-
-pub refused-one : (r : Lent) → lent_of r ≡ unlent Code.ill_formed → r.code ≡ Code.ill_formed
-unfolding unlent
-refused-one r e = ap (λ (a : Questions.Lent). a.code) e
 
 module _ (s : State) (caller : Store.Name) (l : List ℕ) (x : Wish) where
   pub asked-refused : (n : ℕ) (r : Questions.Lent) → first (lend_refuses s caller l x) ≡ n → n ≢ Code.done → r ≡ unlent n
@@ -79,27 +73,26 @@ module _ (s : State) (caller : Store.Name) (l : List ℕ) (x : Wish) where
             (lendable s (shown_slot s caller e) x) (subst (λ m. will_do s m x e ≡ true) who h) in
             (lend-decided s caller x e G parts.0 (names l parts.1 place low high) parts.2).1 (eqb-true _ _ d.0, d.1)
 
-      -- ---- the place that was found, or 0
+      -- ---- no place was found, or this one
 
-      module _ (found : ℕ) (F : Finds (entries l) (λ place. will_do s me x (entry l place)) found) where
-        pub asked-none : (r : Questions.Lent) → found ≡ 0 → r ≡ unlent Code.none_will_do → LendAsked s caller l x r
-        unfolding unlent
-        asked-none r z q = record {
-          refused = λ nz. absurd (nz none-met);
-          found = λ _ c. absurd (omega (arith, c, ap (λ (a : Questions.Lent). a.code) q));
-          none = λ _ _. (q, λ j a b L. F.none z j a b (lends-does j a b L));
-        }
+      pub asked-none : NoneOf (entries l) (λ j. will_do s me x (entry l j) ≡ true)
+          → (r : Questions.Lent) → r ≡ unlent Code.none_will_do → LendAsked s caller l x r
+      unfolding unlent
+      asked-none none r q = record {
+        refused = λ nz. absurd (nz none-met);
+        found = λ _ c. absurd (omega (arith, c, ap (λ (a : Questions.Lent). a.code) q));
+        none = λ _ _. (q, λ j a b L. none j a b (lends-does j a b L));
+      }
 
-        pub asked-found : found ≢ 0 → LendAsked s caller l x (record { code = Code.done; place = found })
-        asked-found nz =
-            let f = F.found nz in
-            record {
-              refused = λ bad. absurd (bad none-met);
-              found = λ _ _. record {
-                some = f.some;
-                low = f.low;
-                holds = does-lends found f.some f.low f.holds;
-                before = λ j a b L. f.before j a b (lends-does j a (omega (arith, f.low)) L);
-              };
-              none = λ _ c. absurd (c refl);
-            }
+      pub asked-found : (place : ℕ) → FirstOf (entries l) (λ j. will_do s me x (entry l j) ≡ true) place
+          → LendAsked s caller l x (record { code = Code.done; place = place })
+      asked-found place f = record {
+        refused = λ bad. absurd (bad none-met);
+        found = λ _ _. record {
+          some = f.some;
+          low = f.low;
+          holds = does-lends place f.some f.low f.holds;
+          before = λ j a b L. f.before j a b (lends-does j a (omega (arith, f.low)) L);
+        };
+        none = λ _ c. absurd (c refl);
+      }

@@ -3,6 +3,7 @@ use Prim.Native.Nat.{ℕ, zero, suc, ◌+◌}
 use mathlib.Core.Path.{◌≡◌, refl, ap, subst}
 use mathlib.Core.Bool.{Bool, true, false, ◌&&◌}
 use mathlib.Core.List.{List, [], ◌∷◌, map}
+use Rattle.std.proofs.Common.{Option, Some, None}
 use native.Mathlib.Omega.{arith}
 use lib.Dec.{eqb, ltb}
 use borrow.Author.Tests.{eqb-true, eqb-false}
@@ -27,20 +28,21 @@ use Rattle.question_lend.proofs.Asking.{asked-refused, asked-none, asked-found}
 
 -- ---- an answer that can be computed
 
--- the first of n places from this one on that passes, 0 if none does
-unfoldable up : (ℕ → Bool) → ℕ → ℕ → ℕ
-up t zero place = 0
-up t (suc n) place = elim (t place) [ true ↦ place | false ↦ up t n (place + 1) ]
+-- the first of n places from this one on that passes, None if none does
+unfoldable up : (ℕ → Bool) → ℕ → ℕ → Option ℕ
+up t zero place = None
+up t (suc n) place = elim (t place) [ true ↦ Some place | false ↦ up t n (place + 1) ]
 
 up-finds : (t : ℕ → Bool) (m n place : ℕ) → place + n ≡ m + 1 → Passed t place → Finds m t (up t n place)
 unfolding up
 up-finds t m zero place e P = found_none t m place P (omega arith)
-up-finds t m (suc n) place e P = pick-by (Finds m t) (t place) place (up t n (place + 1))
+up-finds t m (suc n) place e P = pick-by (Finds m t) (t place) (Some place) (up t n (place + 1))
     (λ q. found_here t m place P (omega arith) q)
     (λ q. up-finds t m n (place + 1) (omega arith) (passed-more t 0 place P q))
 
-unfoldable placed : ℕ → Lent
-placed place = elim (eqb place 0) [ true ↦ unlent Code.none_will_do | false ↦ record { code = Code.done; place = place } ]
+unfoldable placed : Option ℕ → Lent
+placed None = unlent Code.none_will_do
+placed (Some place) = record { code = Code.done; place = place }
 
 module _ (s : State) (caller : Name) (l : List ℕ) (x : Wish) where
   abbrev test : ℕ → Bool
@@ -62,11 +64,10 @@ module _ (s : State) (caller : Name) (l : List ℕ) (x : Wish) where
         let u = none-met (λ n. ltb 1 n) (lend_refuses s caller l x) refl refl z in
         (not-is-false fits u.0, not-is-false (running s (object_named s caller)) u.1.0)
 
-    asked-placed : (found : ℕ) → Finds (entries l) test found → LendAsked s caller l x (placed found)
+    asked-placed : (found : Option ℕ) → Finds (entries l) test found → LendAsked s caller l x (placed found)
     unfolding placed
-    asked-placed found F = pick-by (LendAsked s caller l x) (eqb found 0) _ _
-        (λ e. asked-none s caller l x unmet.0 _ refl unmet.1 G found F _ (eqb-true _ _ e) refl)
-        (λ e. asked-found s caller l x unmet.0 _ refl unmet.1 G found F (eqb-false _ _ e))
+    asked-placed None none = asked-none s caller l x unmet.0 _ refl unmet.1 G none _ refl
+    asked-placed (Some place) first = asked-found s caller l x unmet.0 _ refl unmet.1 G place first
 
   asked-computed : Valid s → LendAsked s caller l x computed
   unfolding computed

@@ -10,29 +10,30 @@ use lib.Dec.{leb, eqb}
 use lib.ListN.{length}
 use borrow.Author.Tests.{leb-true, eq-eqb, ne_eqb, le-leb, lt-leb}
 use Rattle.rules.specs.Limit as Limit
-use Rattle.rules.specs.Slots.{some}
+use Rattle.rules.specs.Slots.{find, some}
 use Rattle.rules.specs.Refusals.{name_fits}
-use Rattle.rules.specs.Questions.{entries, entry, list_fits}
-use Rattle.rules.proofs.Tests.{all3, not-is-true, not-is-false}
-use Rattle.rules.proofs.Slots.{some-none}
-use Rattle.call_steps.specs.Tests.{SameFrom}
-use Rattle.call_steps.proofs.Finding.{same-found, same_end}
+use Rattle.rules.specs.Questions.{FirstOf, NoneOf, entries, entry, list_fits}
+use Rattle.rules.proofs.Tests.{all3, by-eq, not-is-true, not-is-false}
+use Rattle.rules.proofs.Slots.{find-finds, find-some, some-none}
 use Rattle.question_lend.specs.Places.{Place}
 
 pub within : {l : List ℕ} {place : ℕ} → Place l place → Limit.entry * (place - 1) + Limit.entry ≤ length l
 unfolding entries
 within {l} {place} p = omega (arith, p.low, p.high, div-mul-le_self (length l) 4)
 
--- ---- the search down the list, at place i
+-- ---- whether a place was found that passes a test
 
-module _ (t : ℕ → Bool) (n i : ℕ) (now : SameFrom t n i) where
-  pub some-here : 1 ≤ i → t i ≡ true → false ≡ not (some n t)
+module _ (t : ℕ → Bool) (n : ℕ) where
+  pub some-first : (place : ℕ) → FirstOf n (λ j. t j ≡ true) place → false ≡ not (some n t)
   unfolding some
-  some-here low e = rw (sym (same-found t now low e), ne_eqb i 0 (omega arith))
+  some-first place f = rw (ne_eqb (find n t) 0 (find-some n t place f.some f.low f.holds))
 
-  pub some-none-left : i ≡ 0 → true ≡ not (some n t)
+  pub none-some : NoneOf n (λ j. t j ≡ true) → true ≡ not (some n t)
   unfolding some
-  some-none-left z = rw (sym (same_end t now z))
+  none-some none =
+      let zero : find n t ≡ 0 = by-eq (find n t) 0 (λ e. e)
+      (λ ne. let f = find-finds n t ne in absurd (none (find n t) (omega arith) f.1 f.0)) in
+      rw (eq-eqb (find n t) 0 zero)
 
 -- ---- a list as a whole
 

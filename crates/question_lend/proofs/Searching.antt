@@ -3,8 +3,8 @@ use Prim.Native.Nat.{ℕ, ◌+◌, ◌≤◌, ◌<◌}
 use mathlib.Core.Path.{◌≡◌, sym, ◌∙◌, subst}
 use mathlib.Core.Bool.{Bool, true, false, false≢true}
 use native.Mathlib.Omega.{arith}
+use Rattle.rules.specs.Questions.{FirstOf, NoneOf}
 use Rattle.rules.proofs.Tests.{by-eq}
-use Rattle.question_lend.specs.Places.{Finds}
 
 -- none before this place passes
 pub record Passed (t : ℕ → Bool) (place : ℕ) : Type 0 where
@@ -24,14 +24,8 @@ module _ (t : ℕ → Bool) where
           (λ ne. P.none j a (omega arith) e);
     }
 
-    pub found_here : place ≤ n → t place ≡ true → Finds n t place
-    found_here h e = record {
-      found = λ _. record { some = P.low; low = h; holds = e; before = P.none };
-      none = λ z. absurd (omega (arith, P.low));
-    }
+    pub found_here : place ≤ n → t place ≡ true → FirstOf n (λ j. t j ≡ true) place
+    found_here h e = record { some = P.low; low = h; holds = e; before = P.none }
 
-    pub found_none : n < place → Finds n t 0
-    found_none h = record {
-      found = λ nz. absurd (omega arith);
-      none = λ _ j a b e. P.none j a (omega arith) e;
-    }
+    pub found_none : n < place → NoneOf n (λ j. t j ≡ true)
+    found_none h j a b e = P.none j a (omega arith) e

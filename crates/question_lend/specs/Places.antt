@@ -1,5 +1,5 @@
 -- What the program tests of an entry, where it stands in the list, and which place it finds.
-use Rattle.std.specs.Prelude.{ℕ, ◌≤◌, ◌≡◌, ◌≢◌, Bool, true, ◌&&◌, List, eqb}
+use Rattle.std.specs.Prelude.{ℕ, ◌≤◌, ◌≡◌, Bool, true, ◌&&◌, List, Option, Some, None, eqb}
 use Rattle.rules.specs.Code as Code
 use Rattle.rules.specs.Limit as Limit
 use Rattle.rules.specs.Store.{State}
@@ -20,7 +20,7 @@ pub record Place (l : List ℕ) (place : ℕ) : Type 0 where
   pub high : place ≤ entries l
   pub few : entries l ≤ Limit.entries
 
--- r is the first place of 1 to n that passes the test, 0 if none does
-pub record Finds (n : ℕ) (t : ℕ → Bool) (r : ℕ) : Type 0 where
-  pub found : r ≢ 0 → FirstOf n (λ place. t place ≡ true) r
-  pub none : r ≡ 0 → NoneOf n (λ place. t place ≡ true)
+-- r is the first place of 1 to n that passes the test, None if none does
+abbrev pub Finds : ℕ → (ℕ → Bool) → Option ℕ → Type 0
+Finds n t None = NoneOf n (λ place. t place ≡ true)
+Finds n t (Some place) = FirstOf n (λ place. t place ≡ true) place

@@ -25,12 +25,11 @@ use call_steps::present::{admit, right_held};
 use call_steps::ranges::{derive_fits, name_fits};
 use call_steps::request::{Capability, Name};
 use call_steps::target::window_at;
-use call_steps::widen::wide16;
 use kernel_check::check;
 use layout::LAST_DAY;
 use list::{entry_at, list_fits};
-use values::code::{DONE, ILL_FORMED, NONE_WILL_DO, NOT_RUNNING, OUT_OF_RANGE};
 use values::limit::ENTRY_NUMBERS;
+use values::refusal::Refusal;
 use values::rights::Rights;
 use values::window::Window;
 
@@ -43,27 +42,13 @@ pub struct Wish {
     pub last_day: u32,
 }
 
-// 0 or the refusal, and the place; a refusal's is 0.
-#[derive(Clone, Copy)]
-pub struct Lent {
-    pub code: u32,
-    pub place: u32,
-}
-
-// A refusal.
-fn refuse(code: u32) -> Lent
-    ensures { lent_of result ≡ unlent code }
-{
-    Lent { code, place: 0 }
-}
-
 // The last day of the capability in slot k is not before this one.
 fn lasts(links: &[u16], k: usize, last_day: u32) -> bool
     requires fact_1 { length links.now ≡ Layout.LINKS }
     requires fact_2 { Held links.now k }
     ensures { (b w : List ℕ) → result ≡ leb last_day ((view b links.now w).cap k).last_day }
 {
-    last_day <= wide16(links[LAST_DAY + k])
+    last_day <= u32::from(links[LAST_DAY + k])
 }
 
 // The capability in slot k has the rights, the window, the last day and, up to its master, the money.
@@ -74,14 +59,10 @@ fn lendable(links: &[u16], words: &[u32], k: usize, x: Wish) -> bool
     ensures { (b : List ℕ) → Plain b links.now words.now
         → result ≡ lendable (view b links.now words.now) k (wish_of x) }
 {
-    if right_held(links, k, Rights(x.rights as u16)) {
-        let window = window_at(words, k);
-        if window.holds(x.window) & lasts(links, k, x.last_day) {
-            return !climb_stops(Way::Out, links, words, k, x.sum);
-        }
-        return false;
-    }
-    false
+    right_held(links, k, Rights(x.rights as u16))
+        && window_at(words, k).holds(x.window)
+        && lasts(links, k, x.last_day)
+        && !climb_stops(Way::Out, links, words, k, x.sum)
 }
 
 // The process in slot me presents the entry, and can lend the wish from it.
@@ -92,14 +73,13 @@ fn will_do(bytes: &[u8], links: &[u16], words: &[u32], me: usize, e: Capability,
     ensures { result
         ≡ will_do (view bytes.now links.now words.now) me (wish_of x) (capability_of e) }
 {
-    let a = admit(bytes, links, words, me, e, Rights::DERIVE_CAP);
-    if a.code == DONE {
-        return lendable(links, words, a.slot, x);
+    match admit(bytes, links, words, me, e, Rights::DERIVE_CAP) {
+        Ok(k) => lendable(links, words, k, x),
+        Err(_) => false,
     }
-    false
 }
 
-// The first place whose entry will do, 0 if none does.
+// The first place whose entry will do.
 fn first_place(
     bytes: &[u8],
     links: &[u16],
@@ -107,7 +87,7 @@ fn first_place(
     list: &[u32],
     me: usize,
     x: Wish,
-) -> usize
+) -> Option<usize>
     requires fact_1 { Plain bytes.now links.now words.now }
     requires fact_2 { Process bytes.now links.now me }
     requires fact_3 { wish_fits (wish_of x) ≡ true }
@@ -116,38 +96,40 @@ fn first_place(
         (λ place. will_do (view bytes.now links.now words.now) me (wish_of x)
         (entry list.now place)) result }
 {
-    let n = list.len() / ENTRY_NUMBERS;
-    let mut place: usize = 1;
-    while place <= n {
+    for place in 1..=list.len() / ENTRY_NUMBERS {
         if will_do(bytes, links, words, me, entry_at(list, place), x) {
-            return place;
+            return Some(place);
         }
-        place += 1;
     }
-    0
+    None
 }
 
 // The question, on a store that is known to be plain.
-fn lend_of(bytes: &[u8], links: &[u16], words: &[u32], list: &[u32], caller: Name, x: Wish) -> Lent
+fn lend_of(
+    bytes: &[u8],
+    links: &[u16],
+    words: &[u32],
+    list: &[u32],
+    caller: Name,
+    x: Wish,
+) -> Result<u32, Refusal>
     requires { Plain bytes.now links.now words.now }
     ensures { LendAsked (view bytes.now links.now words.now)
         (name_of caller) list.now (wish_of x) (lent_of result) }
 {
-    if name_fits(caller) & list_fits(list) & derive_fits(x.rights, x.window, x.last_day) {
-        let me = find_object(bytes, links, caller);
-        if running(bytes, links, me) {
-            let place = first_place(bytes, links, words, list, me, x);
-            if place == 0 {
-                return refuse(NONE_WILL_DO);
-            }
-            return Lent {
-                code: DONE,
-                place: place as u32,
-            };
-        }
-        return refuse(NOT_RUNNING);
+    if !name_fits(caller) || !list_fits(list) || !derive_fits(x.rights, x.window, x.last_day) {
+        return Err(Refusal::OutOfRange);
     }
-    refuse(OUT_OF_RANGE)
+    let Some(me) = find_object(bytes, links, caller) else {
+        return Err(Refusal::NotRunning);
+    };
+    if !running(bytes, links, me) {
+        return Err(Refusal::NotRunning);
+    }
+    match first_place(bytes, links, words, list, me, x) {
+        Some(place) => Ok(place as u32),
+        None => Err(Refusal::NoneWillDo),
+    }
 }
 
 // The same on slices of any length and content.
@@ -158,11 +140,11 @@ pub fn ask_lend(
     list: &[u32],
     caller: Name,
     x: Wish,
-) -> Lent
+) -> Result<u32, Refusal>
     ensures { Asks bytes.now links.now words.now list.now caller x result }
 {
-    if check(bytes, links, words) {
-        return lend_of(bytes, links, words, list, caller, x);
+    if !check(bytes, links, words) {
+        return Err(Refusal::IllFormed);
     }
-    refuse(ILL_FORMED)
+    lend_of(bytes, links, words, list, caller, x)
 }

@@ -26,12 +26,8 @@ fn names_fit(list: &[u32]) -> bool
     ensures { result ≡ not (some (entries list.now)
         (λ place. not (name_fits (entry list.now place).name))) }
 {
-    let mut place = list.len() / ENTRY_NUMBERS;
-    while 0 < place {
-        let x = entry_at(list, place);
-        if name_fits(x.name) {
-            place -= 1;
-        } else {
+    for place in 1..=list.len() / ENTRY_NUMBERS {
+        if !name_fits(entry_at(list, place).name) {
             return false;
         }
     }
@@ -42,12 +38,5 @@ fn names_fit(list: &[u32]) -> bool
 pub fn list_fits(list: &[u32]) -> bool
     ensures { result ≡ list_fits list.now }
 {
-    let n = list.len() / ENTRY_NUMBERS;
-    if ENTRY_NUMBERS * n == list.len() {
-        if n <= MAX_ENTRIES {
-            return names_fit(list);
-        }
-        return false;
-    }
-    false
+    list.len() % ENTRY_NUMBERS == 0 && list.len() / ENTRY_NUMBERS <= MAX_ENTRIES && names_fit(list)
 }

@@ -12,15 +12,8 @@ use Rattle.rules.specs.Rights.{READ}
 use Rattle.rules.specs.Call as Call
 use Rattle.rules.specs.Password.{presented}
 use Rattle.rules.specs.Refusals.{◌when◌, first, name_fits, running, showing}
-use Rattle.rules.specs.Questions as Questions
 use Rattle.rules.specs.Questions.{shown_slot, window_refuses, unwindowed, windowed_by, window_asked}
 use Rattle.call_steps.proofs.Admitting.{showing-none}
-use Rattle.question_window.specs.declared.Windowed.{Windowed}
-use Rattle.question_window.specs.Asks.{windowed_of}
-
-pub refused-one : (r : Windowed) → windowed_of r ≡ unwindowed Code.ill_formed → r.code ≡ Code.ill_formed
-unfolding unwindowed
-refused-one r e = ap (λ (a : Questions.Windowed). a.code) e
 
 module _ (s : State) (caller : Store.Name) (x : Call.Capability) where
   asked-refused : (n : ℕ) → first (window_refuses s caller x) ≡ n → n ≢ Code.done → window_asked s caller x ≡ unwindowed n

@@ -2,7 +2,7 @@
 #![tactic(auto)]
 
 ghost use Rattle.std.specs.Prelude.{◌≡◌};
-ghost use Rattle.rules.specs.Questions.{unwindowed, window_asked};
+ghost use Rattle.rules.specs.Questions.{window_asked};
 ghost use Rattle.layout.specs.View.{view};
 ghost use Rattle.layout.specs.WellFormed.{Plain};
 ghost use Rattle.call_steps.specs.Request.{name_of, capability_of};
@@ -14,26 +14,9 @@ use call_steps::ranges::name_fits;
 use call_steps::request::{Capability, Name};
 use call_steps::target::window_at;
 use kernel_check::check;
-use values::code::{DONE, ILL_FORMED, NOT_RUNNING, OUT_OF_RANGE};
+use values::refusal::Refusal;
 use values::rights::Rights;
 use values::window::Window;
-
-// 0 or the refusal, and the window; a refusal's is 0 and 0.
-#[derive(Clone, Copy)]
-pub struct Windowed {
-    pub code: u32,
-    pub window: Window,
-}
-
-// A refusal.
-fn refuse(code: u32) -> Windowed
-    ensures { windowed_of result ≡ unwindowed code }
-{
-    Windowed {
-        code,
-        window: Window { start: 0, end: 0 },
-    }
-}
 
 // The caller presents a capability, on a store that is known to be plain.
 pub fn window_of(
@@ -42,26 +25,22 @@ pub fn window_of(
     words: &[u32],
     caller: Name,
     x: Capability,
-) -> Windowed
+) -> Result<Window, Refusal>
     requires { Plain bytes.now links.now words.now }
     ensures { windowed_of result
         ≡ window_asked (view bytes.now links.now words.now) (name_of caller) (capability_of x) }
 {
-    if name_fits(caller) & name_fits(x.name) {
-        let me = find_object(bytes, links, caller);
-        if running(bytes, links, me) {
-            let a = admit(bytes, links, words, me, x, Rights::READ);
-            if a.code == DONE {
-                return Windowed {
-                    code: DONE,
-                    window: window_at(words, a.slot),
-                };
-            }
-            return refuse(a.code);
-        }
-        return refuse(NOT_RUNNING);
+    if !name_fits(caller) || !name_fits(x.name) {
+        return Err(Refusal::OutOfRange);
     }
-    refuse(OUT_OF_RANGE)
+    let Some(me) = find_object(bytes, links, caller) else {
+        return Err(Refusal::NotRunning);
+    };
+    if !running(bytes, links, me) {
+        return Err(Refusal::NotRunning);
+    }
+    let k = admit(bytes, links, words, me, x, Rights::READ)?;
+    Ok(window_at(words, k))
 }
 
 // The same on slices of any length and content.
@@ -71,11 +50,11 @@ pub fn ask_window(
     words: &[u32],
     caller: Name,
     x: Capability,
-) -> Windowed
+) -> Result<Window, Refusal>
     ensures { Asks bytes.now links.now words.now caller x result }
 {
-    if check(bytes, links, words) {
-        return window_of(bytes, links, words, caller, x);
+    if !check(bytes, links, words) {
+        return Err(Refusal::IllFormed);
     }
-    refuse(ILL_FORMED)
+    window_of(bytes, links, words, caller, x)
 }

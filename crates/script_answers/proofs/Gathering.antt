@@ -11,6 +11,13 @@ use Rattle.rules.specs.Rights.{Op, op}
 use Rattle.rules.specs.Call.{Answer}
 use Rattle.rules.specs.Script.{results, answer_of}
 use Rattle.rules.proofs.Tests.{pick_yes, pick-not}
+use Rattle.std.specs.Prelude.{Ok, Err}
+use Rattle.values.specs.declared.refusal.Refusal.{Refusal}
+use Rattle.values.specs.Refusals.{number_of}
+use Rattle.values.proofs.Numbers.{number-some}
+use Rattle.call_steps.specs.declared.request.Given.{Given}
+use Rattle.call_steps.specs.Request.{Reply, count_of}
+use Rattle.call_steps.specs.Request.{answer_of as reply_answer}
 use Rattle.script_text.specs.Numeral.{numeral, after, spaced, line_of}
 use Rattle.script_text.specs.Pasted.{Wrote, Put}
 use Rattle.script_text.proofs.Numerals.{long-length}
@@ -93,16 +100,26 @@ answer-refused : (o : Op) (a : Answer) → a.code ≢ 0 → a.code ∷ [] ≡ an
 unfolding answer_of
 answer-refused o a e = sym (pick-not (eqb a.code 0) _ _ (ne_eqb a.code 0 e))
 
-pub answered-done : {out mid out' : List ℕ} {at p r : ℕ} (o : Op) (a : Answer)
-    → Pushed 11 out at (a.code ∷ []) mid p → Pushed 2827 mid p (results o a) out' r → a.code ≡ 0
-    → Pushed 2838 out at (answer_of o a) out' r
-answered-done {out} {out' = out'} {at = at} {r = r} o a first rest e =
-    subst (λ (l : List ℕ). Pushed 2838 out at l out' r) (answer-done o a e) (pushed_then first rest)
+-- the reply's numbers were written
+abbrev Answered : List ℕ → ℕ → Op → List ℕ → List ℕ → ℕ → Reply → Type 0
+Answered out at o buffer out' q r = Pushed 2838 out at (answer_of o (reply_answer r (take (count_of r) buffer))) out' q
 
-pub answered-refused : {out out' : List ℕ} {at r : ℕ} (o : Op) (a : Answer)
-    → Pushed 11 out at (a.code ∷ []) out' r → a.code ≢ 0 → Pushed 2838 out at (answer_of o a) out' r
-answered-refused {out} {out'} {at} {r} o a first e =
-    subst (λ (l : List ℕ). Pushed 2838 out at l out' r) (answer-refused o a e) (pushed-in first (omega arith))
+pub answered-done : {out mid out' : List ℕ} {at p q : ℕ} {r : Reply} {g : Given} (o : Op) (buffer : List ℕ) → r ≡ Ok g
+    → Pushed 11 out at (0 ∷ []) mid p → Pushed 2827 mid p (results o (reply_answer (Ok g) (take g.count buffer))) out' q
+    → Answered out at o buffer out' q r
+unfolding reply_answer
+answered-done {out} {out' = out'} {at = at} {q = q} {g = g} o buffer e first rest =
+    subst (Answered out at o buffer out' q) (sym e)
+    (subst (λ (l : List ℕ). Pushed 2838 out at l out' q) (answer-done o (reply_answer (Ok g) (take g.count buffer)) refl)
+    (pushed_then first rest))
+
+pub answered-refused : {out out' : List ℕ} {at q n : ℕ} {r : Reply} {f : Refusal} (o : Op) (buffer : List ℕ) → r ≡ Err f
+    → n ≡ number_of f → Pushed 11 out at (n ∷ []) out' q → Answered out at o buffer out' q r
+unfolding reply_answer
+answered-refused {out} {out'} {at} {q} {f = f} o buffer e is first =
+    subst (Answered out at o buffer out' q) (sym e)
+    (subst (λ (l : List ℕ). Pushed 2838 out at l out' q) (answer-refused o (reply_answer (Err f) []) (number-some f))
+    (pushed-in (subst (λ (k : ℕ). Pushed 11 out at (k ∷ []) out' q) is first) (omega arith)))
 
 -- a line's own number, the others, and the line's end
 pub line-pushed : (out one two out' ns : List ℕ) (line at p q r : ℕ) → line ≤ 18446744073709551615 → at ≤ length out

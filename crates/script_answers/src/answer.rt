@@ -1,16 +1,17 @@
 // An answer as a line: "its number .., 0 or the refusal, then results".
-ghost use Rattle.std.specs.Prelude.{◌+◌, ◌*◌, ◌≤◌, ◌≡◌, [], ◌∷◌, length, take};
+ghost use Rattle.std.specs.Prelude.{◌+◌, ◌*◌, ◌≤◌, ◌≡◌, [], ◌∷◌, length, take, Ok};
 ghost use Rattle.rules.specs.Rights.{op};
 ghost use Rattle.rules.specs.Script.{written, results};
 ghost use Rattle.rules.specs.Script.{answer_of as script_answer_of};
-ghost use Rattle.call_steps.specs.Request.{capability_of, answer_of};
+ghost use Rattle.call_steps.specs.Request.{capability_of, answer_of, count_of};
 ghost use Rattle.script_text.specs.Numeral.{line_of};
 ghost use Rattle.script_text.specs.Pasted.{Put};
 ghost use Rattle.script_answers.specs.Room.{ANSWER as Room-as-ANSWER};
 ghost use Rattle.script_answers.specs.Pushed.{Pushed, BytesCounted};
 
-use call_steps::request::{Capability, Reply};
+use call_steps::request::{Capability, Given, Reply};
 use script_text::write::{put_byte, put_digits, put_number};
+use values::refusal::DONE;
 
 // Room for any answer, in bytes.
 pub const ANSWER: usize = 2870;
@@ -24,21 +25,13 @@ fn push(out: &mut [u8], at: usize, v: u32) -> usize
     put_number(out, p, v)
 }
 
-fn wide(b: u8) -> u32
-    ensures { result ≡ b }
-{
-    b as u32
-}
-
 fn push_bytes(out: &mut [u8], at: usize, bytes: &[u8], count: usize) -> usize
     requires { (count ≤ length bytes.now) × (at + 11 * count ≤ length out.old) }
     ensures { Pushed (11 * count) out.old at (take count bytes.now) out.new result }
 {
     let mut p = at;
-    let mut i = 0;
-    while i < count {
-        p = push(out, p, wide(bytes[i]));
-        i += 1;
+    for byte in &bytes[..count] {
+        p = push(out, p, u32::from(*byte));
     }
     p
 }
@@ -72,39 +65,40 @@ fn push_message(out: &mut [u8], at: usize, sum: u32, bytes: &[u8], count: usize)
 }
 
 // What a call that is done gives.
-fn push_results(out: &mut [u8], at: usize, number: u32, reply: Reply, buffer: &[u8]) -> usize
-    requires fact_1 { BytesCounted buffer.now reply.count }
-    requires fact_2 { at + 2827 ≤ length out.old }
+fn push_results(out: &mut [u8], at: usize, number: u32, given: Given, buffer: &[u8]) -> usize
+    requires counted { BytesCounted buffer.now given.count }
+    requires room { at + 2827 ≤ length out.old }
     ensures { Pushed 2827 out.old at
-        (results (op number) (answer_of reply (take reply.count buffer.now))) out.new result }
+        (results (op number) (answer_of (Ok given) (take given.count buffer.now))) out.new result }
 {
-    let count = reply.count as usize;
-    let x = reply.capability;
+    let count = given.count as usize;
+    let x = given.capability;
     match number {
         1 => push_capability(out, at, x),
         2 => push_bytes(out, at, buffer, count),
-        4 => push_two(out, at, reply.length, reply.moneyword),
+        4 => push_two(out, at, given.length, given.moneyword),
         5 => push_capability(out, at, x),
         7 => push_capability(out, at, x),
-        14 => push_message(out, at, reply.sum, buffer, count),
+        14 => push_message(out, at, given.sum, buffer, count),
         _ => at,
     }
 }
 
-// 0 or the refusal, and the results: at most 258 numbers.
+// 0 and the results, or the refusal: at most 258 numbers.
 fn push_answer(out: &mut [u8], at: usize, number: u32, reply: Reply, buffer: &[u8]) -> usize
-    requires fact_1 { BytesCounted buffer.now reply.count }
-    requires fact_2 { at + 2838 ≤ length out.old }
+    requires counted { BytesCounted buffer.now (count_of reply) }
+    requires room { at + 2838 ≤ length out.old }
     ensures { Pushed 2838 out.old at
-        (script_answer_of (op number) (answer_of reply (take reply.count buffer.now)))
+        (script_answer_of (op number) (answer_of reply (take (count_of reply) buffer.now)))
         out.new result }
 {
-    let code = reply.code;
-    let p = push(out, at, code);
-    if code == 0 {
-        return push_results(out, p, number, reply, buffer);
+    match reply {
+        Ok(given) => {
+            let p = push(out, at, DONE);
+            push_results(out, p, number, given, buffer)
+        }
+        Err(refusal) => push(out, at, u32::from(refusal)),
     }
-    p
 }
 
 // The answer to line `line`, `number` being its call's: the line's number, the others, and the line's end.
@@ -116,10 +110,11 @@ pub fn answer_line(
     reply: Reply,
     buffer: &[u8],
 ) -> usize
-    requires fact_1 { BytesCounted buffer.now reply.count }
-    requires fact_2 { at + Room-as-ANSWER ≤ length out.old }
+    requires counted { BytesCounted buffer.now (count_of reply) }
+    requires room { at + Room-as-ANSWER ≤ length out.old }
     ensures { Put Room-as-ANSWER out.old at
-        (line_of (line ∷ script_answer_of (op number) (answer_of reply (take reply.count buffer.now))))
+        (line_of (line ∷ script_answer_of (op number)
+        (answer_of reply (take (count_of reply) buffer.now))))
         out.new result }
 {
     let p = put_digits(out, at, line);

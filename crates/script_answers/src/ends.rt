@@ -1,28 +1,16 @@
-// What is written for a bad line one, and the last line of the output.
-ghost use Rattle.std.specs.Prelude.{ℕ, ◌+◌, ◌≤◌, List, [], ◌∷◌, length};
-ghost use Rattle.rules.specs.Code as Code;
+// The last line of the output.
+ghost use Rattle.std.specs.Prelude.{ℕ, List};
 ghost use Rattle.layout.specs.View.{view};
 ghost use Rattle.layout.specs.Sizes.{LinksWords};
 ghost use Rattle.check_money.specs.Amount.{MastersAre};
-ghost use Rattle.script_text.specs.Numeral.{line_of};
 ghost use Rattle.script_text.specs.Pasted.{Put};
-ghost use Rattle.script_answers.specs.Room.{REFUSAL, TOTALS};
+ghost use Rattle.script_answers.specs.Room.{TOTALS};
 ghost use Rattle.script_answers.specs.Ends.{totals_line, TotalsAsk};
 
 use check_money::{all_boxes, all_cash, money_at};
 use layout::HOUSE;
-use script_text::write::{put_after, put_byte, put_line};
-use values::code::OUT_OF_RANGE;
+use script_text::write::{put_after, put_byte};
 use values::limit::MAX_CAPS;
-
-// "if bad or absent, `0 2` is all it writes."
-pub fn bad_first_line(out: &mut [u8], at: usize) -> usize
-    requires { at + REFUSAL ≤ length out.old }
-    ensures { Put REFUSAL out.old at (line_of (0 ∷ Code.out_of_range ∷ [])) out.new result }
-{
-    let others = [OUT_OF_RANGE];
-    put_line(out, at, 0, &others)
-}
 
 // The masters' moneywords.
 fn all_masters(links: &[u16], words: &[u32]) -> u64
@@ -30,10 +18,8 @@ fn all_masters(links: &[u16], words: &[u32]) -> u64
     ensures { (b : List ℕ) → MastersAre b links.now words.now result }
 {
     let mut total: u64 = 0;
-    let mut i: usize = MAX_CAPS;
-    while 0 < i {
-        total += money_at(links, words, i).0 as u64;
-        i -= 1;
+    for i in (1..=MAX_CAPS).rev() {
+        total += u64::from(money_at(links, words, i).0);
     }
     total
 }

@@ -3,6 +3,7 @@ use Rattle.std.specs.Prelude.{ℕ, ◌+◌, ◌≤◌, ◌≡◌, Bool, List, []
 use Rattle.script_text.specs.Lines.{most_numbers}
 use Rattle.script_text.specs.Pasted.{Wrote}
 use Rattle.script_answers.specs.Room.{TOTALS}
+use Rattle.script_play.specs.declared.workspace.Workspace.{Workspace}
 use Rattle.script_driver.specs.Turns.{opening, Line, Closes, HELD, ANSWER, cut}
 use Rattle.script_driver.specs.Stores.{Store, Formed, stores}
 use Rattle.script_driver.specs.Contract as Contract
@@ -12,6 +13,10 @@ use Rattle.script_driver.specs.declared.Fed.{Fed}
 
 abbrev pub store : List ℕ → List ℕ → List ℕ → Store
 store b l w = record { bytes = b; links = l; words = w }
+
+-- the store that is lent with what a script is played in
+abbrev pub store_in : Workspace → Store
+store_in w = store w.bytes.now w.links.now w.words.now
 
 abbrev pub run_of : Run → Contract.Run
 run_of r = record { number = r.number; bad = r.bad; count = r.count }

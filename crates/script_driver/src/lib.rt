@@ -2,15 +2,17 @@
 // output, plays the lines that end there, and says how far it came in both. What it does is fixed by what came in.
 #![tactic(auto)]
 
-ghost use Rattle.script_play.specs.Plays.{Working};
+ghost use Rattle.script_play.specs.Workspace.{Works, StaysLent};
 ghost use Rattle.script_driver.specs.Contract.{FeedAsks, Feeding, FinishAsks, Finishing};
-ghost use Rattle.script_driver.specs.Parts.{store, run_of, fed_of, EndAsks, EndPut};
+ghost use Rattle.script_driver.specs.Parts.{store_in, run_of, fed_of, EndAsks, EndPut};
 
 pub mod line;
 
 use line::{ended, hold, one_line};
 use script_answers::answer::ANSWER;
-use script_answers::ends::{bad_first_line, totals_line};
+use script_answers::ends::totals_line;
+use script_play::line::bad_line;
+use script_play::workspace::Workspace;
 use script_text::lines::line_end;
 
 // Room for an answer and for the last line of the output.
@@ -37,24 +39,12 @@ pub struct Fed {
 }
 
 // Plays as many lines as end in the window and as there is room for, and holds what stands after the last.
-pub fn feed(
-    bytes: &mut [u8],
-    links: &mut [u16],
-    words: &mut [u32],
-    numbers: &mut [u32],
-    text: &mut [u8],
-    buffer: &mut [u8],
-    scratch: &mut [u16],
-    held: &mut [u8],
-    window: &[u8],
-    out: &mut [u8],
-    begun: Run,
-) -> Fed
-    requires fact_1 { FeedAsks (store bytes.old links.old words.old) held.old (run_of begun) window.now out.old begun.at }
-    requires fact_2 { Working numbers.old text.old buffer.old scratch.old }
-    ensures { Feeding (store bytes.old links.old words.old) held.old (run_of begun)
-        window.now out.old begun.at
-        (store bytes.new links.new words.new) held.new out.new (fed_of result) }
+pub fn feed(room: &mut Workspace, held: &mut [u8], window: &[u8], out: &mut [u8], begun: Run) -> Fed
+    requires asks { FeedAsks (store_in room.old) held.old (run_of begun) window.now out.old begun.at }
+    requires working { Works room.old }
+    ensures feeding { Feeding (store_in room.old) held.old (run_of begun) window.now out.old begun.at
+        (store_in room.new) held.new out.new (fed_of result) }
+    ensures lent { StaysLent room.old room.new }
 {
     let mut run = begun;
     let mut from = 0;
@@ -73,72 +63,34 @@ pub fn feed(
                 taken: end,
             };
         }
-        run = ended(
-            bytes,
-            links,
-            words,
-            numbers,
-            text,
-            buffer,
-            scratch,
-            held,
-            &window[from..end],
-            out,
-            run,
-        );
+        run = ended(room, held, &window[from..end], out, run);
         from = end + 1;
     }
     Fed { run, taken: from }
 }
 
 // "Line one .. if bad or absent, `0 2` is all it writes"; else "Last `T`" and the totals.
-fn put_end(bytes: &[u8], links: &[u16], words: &[u32], out: &mut [u8], run: Run) -> usize
-    requires { EndAsks (store bytes.now links.now words.now) out.old run.at }
-    ensures { EndPut (store bytes.now links.now words.now) out.old run out.new result }
+fn put_end(room: &Workspace, out: &mut [u8], run: Run) -> usize
+    requires { EndAsks (store_in room.now) out.old run.at }
+    ensures { EndPut (store_in room.now) out.old run out.new result }
 {
-    if run.bad {
-        return bad_first_line(out, run.at);
+    if run.bad || run.number == 0 {
+        return bad_line(out, run.at, 0);
     }
-    if run.number == 0 {
-        return bad_first_line(out, run.at);
-    }
-    totals_line(bytes, links, words, out, run.at)
+    totals_line(room.bytes, room.links, room.words, out, run.at)
 }
 
 // The end of the input: "The last line may lack its end; nothing after a last byte 10 is no line." Then the last line of the output.
-pub fn finish(
-    bytes: &mut [u8],
-    links: &mut [u16],
-    words: &mut [u32],
-    numbers: &mut [u32],
-    text: &mut [u8],
-    buffer: &mut [u8],
-    scratch: &mut [u16],
-    held: &[u8],
-    out: &mut [u8],
-    run: Run,
-) -> usize
-    requires fact_1 { FinishAsks (store bytes.old links.old words.old) held.now (run_of run) out.old run.at }
-    requires fact_2 { Working numbers.old text.old buffer.old scratch.old }
-    ensures { Finishing (store bytes.old links.old words.old) held.now (run_of run) out.old run.at
-        (store bytes.new links.new words.new) out.new result }
+pub fn finish(room: &mut Workspace, held: &[u8], out: &mut [u8], run: Run) -> usize
+    requires asks { FinishAsks (store_in room.old) held.now (run_of run) out.old run.at }
+    requires working { Works room.old }
+    ensures finishing { Finishing (store_in room.old) held.now (run_of run) out.old run.at
+        (store_in room.new) out.new result }
+    ensures lent { StaysLent room.old room.new }
 {
     if run.count == 0 {
-        return put_end(bytes, links, words, out, run);
+        return put_end(room, out, run);
     }
-    let last = one_line(
-        bytes,
-        links,
-        words,
-        numbers,
-        text,
-        buffer,
-        scratch,
-        &held[..run.count],
-        out,
-        run.at,
-        run.number,
-        run.bad,
-    );
-    put_end(bytes, links, words, out, last)
+    let last = one_line(room, &held[..run.count], out, run);
+    put_end(room, out, last)
 }

@@ -1,48 +1,33 @@
 // A line of a script: what is held of it until it has ended, and how it is played.
-ghost use Rattle.std.specs.Prelude.{min, ◌≡◌};
-ghost use Rattle.script_play.specs.Plays.{Working};
-ghost use Rattle.script_driver.specs.Parts.{store, HoldAsks, Holds, FirstAsks, FirstLine, LineAsks, OneLine, EndedAsks, EndedLine};
+ghost use Rattle.script_play.specs.Workspace.{Works, StaysLent};
+ghost use Rattle.script_driver.specs.Parts.{store_in, HoldAsks, Holds, FirstAsks, FirstLine, LineAsks, OneLine, EndedAsks, EndedLine};
 
 use crate::Run;
 use script_play::line::play_line;
 use script_play::start::start;
+use script_play::workspace::Workspace;
 use script_text::lines::LONGEST;
 
 // Of a line that has not ended so many bytes are held at most: one more than a line may have.
 pub const HELD: usize = LONGEST + 1;
-
-fn fewer(a: usize, b: usize) -> usize
-    ensures { result ≡ min a b }
-{
-    if a < b {
-        return a;
-    }
-    b
-}
 
 // More bytes of a line that has not ended.
 pub(crate) fn hold(held: &mut [u8], count: usize, part: &[u8]) -> usize
     requires { HoldAsks held.old count }
     ensures { Holds held.old count part.now held.new result }
 {
-    let n = fewer(HELD - count, part.len());
+    let n = (HELD - count).min(part.len());
     held[count..count + n].copy_from_slice(&part[..n]);
     count + n
 }
 
 // Line one, without its end.
-fn first_line(
-    line: &[u8],
-    numbers: &mut [u32],
-    bytes: &mut [u8],
-    links: &mut [u16],
-    words: &mut [u32],
-    at: usize,
-) -> Run
-    requires { FirstAsks (store bytes.old links.old words.old) numbers.old }
-    ensures { FirstLine line.now at (store bytes.new links.new words.new) result }
+fn first_line(room: &mut Workspace, line: &[u8], at: usize) -> Run
+    requires { FirstAsks (store_in room.old) room.old.numbers.now }
+    ensures line { FirstLine line.now at (store_in room.new) result }
+    ensures lent { StaysLent room.old room.new }
 {
-    if start(line, numbers, bytes, links, words) {
+    if start(room, line) {
         return Run {
             number: 1,
             bad: false,
@@ -58,42 +43,28 @@ fn first_line(
     }
 }
 
-// A line, without its end. After a bad line one no line is played.
-pub(crate) fn one_line(
-    bytes: &mut [u8],
-    links: &mut [u16],
-    words: &mut [u32],
-    numbers: &mut [u32],
-    text: &mut [u8],
-    buffer: &mut [u8],
-    scratch: &mut [u16],
-    line: &[u8],
-    out: &mut [u8],
-    at: usize,
-    number: u64,
-    bad: bool,
-) -> Run
-    requires fact_1 { LineAsks (store bytes.old links.old words.old) out.old at number }
-    requires fact_2 { Working numbers.old text.old buffer.old scratch.old }
-    ensures { OneLine (store bytes.old links.old words.old) line.now out.old at number bad
-        (store bytes.new links.new words.new) out.new result }
+// A line, without its end, at which the run stands. After a bad line one no line is played.
+pub(crate) fn one_line(room: &mut Workspace, line: &[u8], out: &mut [u8], run: Run) -> Run
+    requires asks { LineAsks (store_in room.old) out.old run.at run.number }
+    requires working { Works room.old }
+    ensures line { OneLine (store_in room.old) line.now out.old run.at run.number run.bad
+        (store_in room.new) out.new result }
+    ensures lent { StaysLent room.old room.new }
 {
-    if bad {
+    if run.bad {
         return Run {
-            number,
+            number: run.number,
             bad: true,
             count: 0,
-            at,
+            at: run.at,
         };
     }
-    if number == 0 {
-        return first_line(line, numbers, bytes, links, words, at);
+    if run.number == 0 {
+        return first_line(room, line, run.at);
     }
-    let p = play_line(
-        bytes, links, words, numbers, text, buffer, scratch, line, number, out, at,
-    );
+    let p = play_line(room, line, run.number, out, run.at);
     Run {
-        number: number + 1,
+        number: run.number + 1,
         bad: false,
         count: 0,
         at: p,
@@ -102,42 +73,21 @@ pub(crate) fn one_line(
 
 // A line that has ended, of which some bytes are held and `part` is the rest: where none is held it lies whole there, and is not copied.
 pub(crate) fn ended(
-    bytes: &mut [u8],
-    links: &mut [u16],
-    words: &mut [u32],
-    numbers: &mut [u32],
-    text: &mut [u8],
-    buffer: &mut [u8],
-    scratch: &mut [u16],
+    room: &mut Workspace,
     held: &mut [u8],
     part: &[u8],
     out: &mut [u8],
     run: Run,
 ) -> Run
-    requires fact_1 { EndedAsks (store bytes.old links.old words.old) held.old out.old run }
-    requires fact_2 { Working numbers.old text.old buffer.old scratch.old }
-    ensures { EndedLine (store bytes.old links.old words.old) held.old part.now out.old run
-        (store bytes.new links.new words.new) held.new out.new result }
+    requires asks { EndedAsks (store_in room.old) held.old out.old run }
+    requires working { Works room.old }
+    ensures line { EndedLine (store_in room.old) held.old part.now out.old run
+        (store_in room.new) held.new out.new result }
+    ensures lent { StaysLent room.old room.new }
 {
     if run.count == 0 {
-        return one_line(
-            bytes, links, words, numbers, text, buffer, scratch, part, out, run.at, run.number,
-            run.bad,
-        );
+        return one_line(room, part, out, run);
     }
     let n = hold(held, run.count, part);
-    one_line(
-        bytes,
-        links,
-        words,
-        numbers,
-        text,
-        buffer,
-        scratch,
-        &held[..n],
-        out,
-        run.at,
-        run.number,
-        run.bad,
-    )
+    one_line(room, &held[..n], out, run)
 }

@@ -1,15 +1,16 @@
 -- Numbers that are bytes, and the lines that a call asks.
 use Prim.Native.Nat.{ℕ, zero, suc, ◌+◌, ◌-◌, ◌≤◌, ◌<◌}
-use mathlib.Core.Path.{◌≡◌, refl, sym, ap, ◌∙◌}
+use mathlib.Core.Path.{◌≡◌, refl, sym, ap, ap₂, ◌∙◌}
 use mathlib.Core.Logic.{◌≢◌}
 use mathlib.Core.Bool.{Bool, true, false, not, ◌&&◌, false≢true}
 use mathlib.Core.List.{List, [], ◌∷◌}
 use native.Mathlib.Omega.{arith}
 use native.Mathlib.Numerals.{add-one}
-use lib.Dec.{leb, ltb}
+use lib.Dec.{leb, ltb, eqb}
+use Rattle.std.proofs.Common.{cond, is_le, Less, Equal, Greater}
 use lib.ListN.{length, get_or, drop, length-drop, drop_of_length-le}
 use lib.Seq.{drop-cons, get_or-drop}
-use borrow.Author.Tests.{lt-ltb, le-ltb, le-leb, lt-leb, ltb-true, ltb-false, leb-true}
+use borrow.Author.Tests.{lt-ltb, le-ltb, le-leb, lt-leb, ltb-true, ltb-false, leb-true, eqb-true, eqb-false}
 use Rattle.rules.specs.Slots.{any}
 use Rattle.rules.specs.Rights.{op}
 use Rattle.rules.specs.Fields.{text, place}
@@ -43,6 +44,21 @@ bytes-stop l i h high = ap are_bytes (next l i h) ∙ bytes-above (get_or l i 0)
 
 pub bytes-end : (l : List ℕ) (i : ℕ) → length l ≤ i → are_bytes (drop i l) ≡ true
 bytes-end l i h = ap are_bytes (drop_of_length-le l h) ∙ bytes-none
+
+-- ---- the test of a call's number
+
+-- what the library's `contains` computes of each end of a range
+within-end : (a b : ℕ) → is_le (cond (ltb a b) Less (cond (eqb a b) Equal Greater)) ≡ leb a b
+within-end a b = by_bool (ltb a b)
+    (λ t. rw t (sym (le-leb a b (omega (arith, ltb-true a b t)))))
+    (λ f. by_bool (eqb a b)
+    (λ t. rw (f, t) (sym (le-leb a b (omega (arith, eqb-true a b t)))))
+    (λ n. rw (f, n) (sym (lt-leb a b (omega (arith, ltb-false a b f, eqb-false a b n))))))
+
+pub within-ends : (a b n : ℕ) → (is_le (cond (ltb a n) Less (cond (eqb a n) Equal Greater))
+    && is_le (cond (ltb n b) Less (cond (eqb n b) Equal Greater)))
+    ≡ (leb a n && leb n b)
+within-ends a b n = ap₂ ◌&&◌ (within-end a n) (within-end n b)
 
 -- ---- after so many numbers
 

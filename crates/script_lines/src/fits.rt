@@ -4,7 +4,7 @@ ghost use Rattle.rules.specs.Rights.{op};
 ghost use Rattle.rules.specs.Script.{are_bytes, is_call, line_fits, nth};
 ghost use Rattle.script_lines.specs.Lacking.{lacking};
 
-use crate::table::{LAST_DAY, LENGTH, TEXT, column, wide};
+use crate::table::{LAST_DAY, LENGTH, TEXT, column};
 use values::limit::MAX_BYTE;
 use values::number::DAY;
 
@@ -26,20 +26,14 @@ fn are_bytes(numbers: &[u32], from: usize) -> bool
 fn ends_in_bytes(numbers: &[u32], from: usize) -> bool
     ensures { result ≡ (leb from (length numbers.now) && are_bytes (drop from numbers.now)) }
 {
-    if from <= numbers.len() {
-        return are_bytes(numbers, from);
-    }
-    false
+    from <= numbers.len() && are_bytes(numbers, from)
 }
 
 // The i-th number, counted from 0, and 0 past the last.
 pub(crate) fn nth(numbers: &[u32], i: usize) -> u32
     ensures { result ≡ nth numbers.now i }
 {
-    if i < numbers.len() {
-        return numbers[i];
-    }
-    0
+    numbers.get(i).copied().unwrap_or(0)
 }
 
 // How many numbers a line with a place for a last day has less than its fields, where that is 1 or 2.
@@ -51,7 +45,7 @@ pub(crate) fn lacking(numbers: &[u32], call: usize) -> u8
     if place == 0 {
         return 0;
     }
-    let fields = wide(LENGTH[call]);
+    let fields = usize::from(LENGTH[call]);
     if numbers.len() + 1 == fields {
         return 1;
     }
@@ -65,7 +59,7 @@ pub(crate) fn lacking(numbers: &[u32], call: usize) -> u8
 fn is_call(number: u32) -> bool
     ensures { result ≡ is_call number }
 {
-    number >= 1 && number <= DAY
+    (1..=DAY).contains(&number)
 }
 
 // A line of a call has as many numbers as the call asks, but for those that it may lack, and bytes where it asks them.
@@ -77,9 +71,9 @@ pub fn line_fits(numbers: &[u32]) -> bool
         return false;
     }
     let call = column(number);
-    let text = wide(TEXT[call]);
+    let text = usize::from(TEXT[call]);
     if text == 0 {
-        return numbers.len() + wide(lacking(numbers, call)) == wide(LENGTH[call]);
+        return numbers.len() + usize::from(lacking(numbers, call)) == usize::from(LENGTH[call]);
     }
     ends_in_bytes(numbers, text)
 }

@@ -9,7 +9,7 @@ ghost use Rattle.script_lines.specs.Lacking.{number_or};
 
 use crate::fits::{lacking, nth};
 use crate::table;
-use crate::table::{column, wide};
+use crate::table::column;
 use call_steps::request::{Capability, Name, Request};
 use values::limit::{DEFAULT_LAST_DAY, DEFAULT_LIMIT};
 use values::window::Window;
@@ -21,7 +21,18 @@ fn number_at(numbers: &[u32], place: u8) -> u32
     if place == 0 {
         return 0;
     }
-    nth(numbers, wide(place))
+    nth(numbers, usize::from(place))
+}
+
+// The name whose volume and serial are at these fields' places.
+fn name_at(numbers: &[u32], volume: u8, serial: u8) -> Name
+    ensures volume { result.volume ≡ number_at numbers.now volume }
+    ensures serial { result.serial ≡ number_at numbers.now serial }
+{
+    Name {
+        volume: number_at(numbers, volume),
+        serial: number_at(numbers, serial),
+    }
 }
 
 // The number at the place of a field that stands after those that the line lacks: so many less.
@@ -55,24 +66,19 @@ pub fn request_of(numbers: &[u32]) -> Request
     let lacking = lacking(numbers, call);
     Request {
         number,
-        caller: Name {
-            volume: number_at(numbers, table::CALLER_VOLUME[call]),
-            serial: number_at(numbers, table::CALLER_SERIAL[call]),
-        },
+        caller: name_at(
+            numbers,
+            table::CALLER_VOLUME[call],
+            table::CALLER_SERIAL[call],
+        ),
         presented: Capability {
-            name: Name {
-                volume: number_at(numbers, table::CAP_VOLUME[call]),
-                serial: number_at(numbers, table::CAP_SERIAL[call]),
-            },
+            name: name_at(numbers, table::CAP_VOLUME[call], table::CAP_SERIAL[call]),
             password: [
                 number_at(numbers, table::CAP_P1[call]),
                 number_at(numbers, table::CAP_P2[call]),
             ],
         },
-        name: Name {
-            volume: number_at(numbers, table::VOLUME[call]),
-            serial: number_at(numbers, table::SERIAL[call]),
-        },
+        name: name_at(numbers, table::VOLUME[call], table::SERIAL[call]),
         size: number_at(numbers, table::SIZE[call]),
         flag: number_at(numbers, table::FLAG[call]),
         rights: number_at(numbers, table::RIGHTS[call]),

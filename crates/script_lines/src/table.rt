@@ -2,6 +2,7 @@
 // to 16, the first of them for every number that is no process call's, 17 alone of which has a line, and a row for each
 // field after the call number: its place in the line, counted from 0, where the call number stands; 0 says that the line
 // does not have the field.
+// kept: an array for each field; tried as one array of seventeen structs, the check of `line_of`, which read it, outgrew its memory.
 ghost use Rattle.std.specs.Prelude.{◌≤◌, ◌≡◌};
 ghost use Rattle.rules.specs.Rights.{op};
 
@@ -60,10 +61,4 @@ pub(crate) fn column(number: u32) -> usize
         return 0;
     }
     number as usize
-}
-
-pub(crate) fn wide(x: u8) -> usize
-    ensures { result ≡ x }
-{
-    x as usize
 }

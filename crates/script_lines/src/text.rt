@@ -5,7 +5,7 @@ ghost use Rattle.rules.specs.Script.{nth, call_of};
 ghost use Rattle.script_lines.specs.Lists.{Front, BytesFrom, LineAsks};
 
 use crate::fits::nth;
-use crate::table::{TEXT, column, wide};
+use crate::table::{TEXT, column};
 
 // The numbers from place `from` on, as bytes.
 fn copy_bytes(numbers: &[u32], from: usize, text: &mut [u8]) -> usize
@@ -28,7 +28,7 @@ pub fn text_of(numbers: &[u32], text: &mut [u8]) -> usize
     ensures { Front (call_of (op (nth numbers.now 0)) numbers.now).text text.new result }
 {
     let call = column(nth(numbers, 0));
-    let from = wide(TEXT[call]);
+    let from = usize::from(TEXT[call]);
     if from == 0 {
         return 0;
     }

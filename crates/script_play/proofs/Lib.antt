@@ -1,4 +1,4 @@
 -- a line is played as the rules say
 pub mod Playing
--- line one
-pub mod Starting
+-- the slices that are lent for it
+pub mod Lending

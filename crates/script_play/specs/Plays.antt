@@ -1,6 +1,6 @@
 -- A line after line one: 01, "A bad line .. is answered 2 and changes nothing. Output for each line after line one: its
 -- number .., 0 or the refusal, then results".
-use Rattle.std.specs.Prelude.{ℕ, ◌+◌, ◌≤◌, ◌≡◌, true, false, List, ◌∷◌, length}
+use Rattle.std.specs.Prelude.{ℕ, ◌+◌, ◌≤◌, ◌≡◌, true, false, List, ◌∷◌, length, take, Option, Some, None}
 use Rattle.rules.specs.Store.{State}
 use Rattle.rules.specs.Rights.{op}
 use Rattle.rules.specs.Limit as Limit
@@ -11,6 +11,8 @@ use Rattle.rules.specs.Demand.{Allowed}
 use Rattle.rules.specs.Script.{nth, line_fits, call_of, answer_of}
 use Rattle.layout.specs.View.{view}
 use Rattle.layout.specs.WellFormed.{WellFormed}
+use Rattle.call_steps.specs.Request.{Reply, count_of}
+use Rattle.call_steps.specs.Request.{answer_of as reply_answer}
 use Rattle.kernel_step.specs.Run.{step_run}
 use Rattle.script_text.specs.Numeral.{line_of}
 use Rattle.script_text.specs.Scan.{Means}
@@ -31,6 +33,12 @@ pub record Unchanged (b l w b' l' w' : List ℕ) : Type 0 where
   pub links : l' ≡ l
   pub words : w' ≡ w
 
+-- a reply of the code says the answer, its bytes at the buffer's front
+pub record Said (a : Answer) : Type 0 where
+  pub reply : Reply
+  pub is : reply_answer reply a.bytes ≡ a
+  pub count : count_of reply ≡ length a.bytes
+
 -- b, l, w are the slices at entry, b', l', w' those at exit; the line has number `number`
 pub record Played (ns : List ℕ) (number : ℕ) (b l w b' l' w' out : List ℕ) (at : ℕ) (out' : List ℕ) (r : ℕ) : Type 0 where
   -- the free slots that a done call took, where 01 leaves open which
@@ -39,6 +47,7 @@ pub record Played (ns : List ℕ) (number : ℕ) (b l w b' l' w' out : List ℕ)
   -- the answer and the store are those of the rules
   pub answer : Answer
   pub rules : line_with choice (view b l w) ns ≡ record { answer = answer; after = view b' l' w' }
+  pub said : Said answer
   -- and they are the exact run's, which says what is taken where 01 leaves it open
   pub exact : line_fits (op (nth ns 0)) ns ≡ true → step_run b l w (call_of (op (nth ns 0)) ns)
       ≡ record { answer = answer; bytes = b'; links = l'; words = w' }
@@ -73,13 +82,21 @@ pub record PlayAsks (b l w out : List ℕ) (at : ℕ) : Type 0 where
   pub formed : WellFormed b l w
   pub room : at + ANSWER ≤ length out
 
--- and numbers, no more than a line has
-pub record NumbersAsk (b l w ns ts bs ss out : List ℕ) (at : ℕ) : Type 0 where
-  pub play : PlayAsks b l w out at
-  pub few : length ns ≤ most_numbers
-  pub lent : Lent ts bs ss
+-- the first r of these numbers fit their call
+pub record Fits (ns : List ℕ) (r : ℕ) : Type 0 where
+  pub within : r ≤ length ns
+  pub fits : line_fits (op (nth (take r ns) 0)) (take r ns) ≡ true
 
--- which fit their call
-pub record CallAsks (b l w ns ts bs ss out : List ℕ) (at : ℕ) : Type 0 where
-  pub asks : NumbersAsk b l w ns ts bs ss out at
-  pub fits : line_fits (op (nth ns 0)) ns ≡ true
+-- a line whose numbers do has them at the front of ns; a bad one has none
+pub record FitsRead (line ns : List ℕ) (r : ℕ) : Type 0 where
+  pub means : Means line (take r ns)
+  pub fits : Fits ns r
+
+pub record Misfits (line : List ℕ) : Type 0 where
+  pub numbers : List ℕ
+  pub means : Means line numbers
+  pub bad : line_fits (op (nth numbers 0)) numbers ≡ false
+
+abbrev pub Fitting : List ℕ → List ℕ → Option ℕ → Type 0
+Fitting line ns (Some r) = FitsRead line ns r
+Fitting line ns None = Misfits line

@@ -1,5 +1,5 @@
 -- 01: "Line one is supply, p1, p2".
-use Rattle.std.specs.Prelude.{ℕ, ◌≡◌, Bool, true, false, List, eqb, length}
+use Rattle.std.specs.Prelude.{ℕ, ◌≡◌, ◌≢◌, Bool, true, false, List, eqb, length, Option, Some, None}
 use Rattle.rules.specs.Store.{Password}
 use Rattle.rules.specs.Store as Store
 use Rattle.rules.specs.Script.{nth}
@@ -7,6 +7,8 @@ use Rattle.layout.specs.View.{view}
 use Rattle.layout.specs.WellFormed.{WellFormed}
 use Rattle.kernel_fresh.specs.Slices.{fresh_bytes, fresh_links, fresh_words}
 use Rattle.script_text.specs.Scan.{Means}
+use Rattle.script_lines.specs.declared.first.First.{First}
+use Rattle.script_lines.specs.First.{Says}
 use Rattle.script_play.specs.Plays.{Unchanged}
 
 abbrev pub password_in : List ℕ → Password
@@ -31,3 +33,19 @@ pub record Starts (line b l w b' l' w' : List ℕ) (r : Bool) : Type 0 where
   pub numbers : List ℕ
   pub line-means : Means line numbers
   pub made : Made numbers b l w b' l' w' r
+
+-- ---- what line one says
+
+pub record OpensWith (line : List ℕ) (r : First) : Type 0 where
+  pub numbers : List ℕ
+  pub means : Means line numbers
+  pub says : Says numbers r
+
+pub record Refused (line : List ℕ) : Type 0 where
+  pub numbers : List ℕ
+  pub means : Means line numbers
+  pub other : length numbers ≢ 3
+
+abbrev pub Opens : List ℕ → Option First → Type 0
+Opens line (Some r) = OpensWith line r
+Opens line None = Refused line

@@ -1,5 +1,6 @@
 -- the digits of a number
 pub mod Numerals
+pub mod Decimals
 -- scans of a line and what it says
 pub mod Scanning
 pub mod Reading

@@ -1,16 +1,16 @@
 -- A line says one list of numbers, and one of 2,048 bytes says 1,024 at most.
 use Prim.Native.Nat.{ℕ, suc, ◌+◌, ◌*◌, ◌/◌, ◌%◌, ◌≤◌, ◌<◌}
 use mathlib.Core.Path.{◌≡◌, refl, sym, ap, ◌∙◌}
-use mathlib.Core.Bool.{true, false}
 use mathlib.Core.List.{List, [], ◌∷◌, ◌++◌}
 use native.Mathlib.Omega.{arith}
 use lib.Dec.{ltb}
 use lib.ListN.{length, get_or, length-append}
 use borrow.Author.Tests.{ltb-true, ltb-false}
 use Rattle.rules.proofs.Tests.{by_bool}
+use Rattle.std.specs.Prelude.{Option, Some, None}
+use Rattle.std.specs.Option.{unwrap_or}
 use Rattle.script_text.specs.Numeral.{numeral, after, spaced, Says, computes}
 use Rattle.script_text.specs.Scan.{Scan, found, scan, ReadIs, Means, good, bad, LineIs}
-use Rattle.script_text.specs.declared.read.Read.{Read}
 use Rattle.script_text.proofs.Numerals.{numeral-digit, numeral-tenth}
 use Rattle.script_text.proofs.Scanning.{scan-numeral}
 use Rattle.script_text.proofs.Reading.{scan-after}
@@ -67,25 +67,19 @@ says-few line [] h few = omega arith
 says-few line (n ∷ ns) h few =
     omega (arith, numeral-some n, after-some ns, length-append (numeral n) (after ns), ap length h.text)
 
--- so with 1,024 cells a line that is not read is bad
-pub bad-line : (line out out' : List ℕ) (r : Read) → ReadIs line out out' r → length line ≤ 2048 → 1024 ≤ length out
-    → r.ok ≡ false → (ns : List ℕ) → Says line ns → ⊥
-bad-line line out out' r h short room not-ok ns says =
-    h.bad not-ok ns says (omega (arith, says-few line ns says short))
-
 -- ---- the numbers that a line has
 
 pub line-long : (line out : List ℕ) → 2048 < length line → LineIs line out out 0
 line-long line out h = record { count = omega arith; means = bad (λ short. absurd (omega arith)) }
 
-pub line-good : (line out out' : List ℕ) (r : Read) → ReadIs line out out' r → length line ≤ 2048 → r.ok ≡ true
-    → LineIs line out out' r.count
-line-good line out out' r h short ok = record { count = h.count; means = good short (h.says ok) }
-
-pub line-bad : (line out out' : List ℕ) (r : Read) → ReadIs line out out' r → length line ≤ 2048 → 1024 ≤ length out
-    → r.ok ≡ false → LineIs line out out' 0
-line-bad line out out' r h short room ok =
-    record { count = omega arith; means = bad (λ _. bad-line line out out' r h short room ok) }
+-- with 1,024 cells a line that is not read is bad
+pub line-read : (line out out' : List ℕ) (r : Option ℕ) → ReadIs line out out' r → length line ≤ 2048 → 1024 ≤ length out
+    → LineIs line out out' (unwrap_or r 0)
+line-read line out out' (Some n) h short room = record { count = h.count; means = good short h.says }
+line-read line out out' None h short room = record {
+  count = omega arith;
+  means = bad (λ _ ns says. h ns says (omega (arith, says-few line ns says short)));
+}
 
 -- they are one list
 pub means-same : (line ns ms : List ℕ) → Means line ns → Means line ms → ns ≡ ms

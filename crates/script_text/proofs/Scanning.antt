@@ -8,8 +8,9 @@ use native.Mathlib.Omega.{arith}
 use lib.Dec.{eqb, leb}
 use borrow.Author.Tests.{leb-true, le-leb, eqb-true, eqb-false, eq-eqb, ne_eqb}
 use Rattle.rules.proofs.Tests.{by_bool, pick_yes, pick-not, both_true, all2, not-is-true}
+use Rattle.std.specs.Char.{is_ascii_digit}
 use Rattle.script_text.specs.Numeral.{numeral}
-use Rattle.script_text.specs.Scan.{is_digit, extends, Scan, failed, found, scan_on, scan}
+use Rattle.script_text.specs.Scan.{extends, Scan, failed, found, scan_on, scan}
 use Rattle.script_text.proofs.Numerals.{numeral-digit, numeral-more, numeral-by}
 
 -- ---- digits
@@ -18,13 +19,11 @@ pub record Digit (b : ℕ) : Type 0 where
   pub low : 48 ≤ b
   pub high : b ≤ 57
 
-pub digit : (b : ℕ) → is_digit b ≡ true → Digit b
-unfolding is_digit
+pub digit : (b : ℕ) → is_ascii_digit b ≡ true → Digit b
 digit b e = let f = all2 (leb 48 b) (leb b 57) e in
     record { low = leb-true _ _ f.0; high = leb-true _ _ f.1 }
 
-pub digit_is : (b : ℕ) → Digit b → is_digit b ≡ true
-unfolding is_digit
+pub digit_is : (b : ℕ) → Digit b → is_ascii_digit b ≡ true
 digit_is b d = both_true (leb 48 b) (leb b 57) (le-leb _ _ d.low) (le-leb _ _ d.high)
 
 pub record Extends (v b : ℕ) : Type 0 where
@@ -35,8 +34,8 @@ pub record Extends (v b : ℕ) : Type 0 where
 pub extending : (v b : ℕ) → extends v b ≡ true → Extends v b
 unfolding extends
 extending v b e =
-    let f = all2 (not (eqb v 0)) (is_digit b && leb (v * 10 + (b - 48)) 4294967295) e in
-    let g = all2 (is_digit b) (leb (v * 10 + (b - 48)) 4294967295) f.1 in
+    let f = all2 (not (eqb v 0)) (is_ascii_digit b && leb (v * 10 + (b - 48)) 4294967295) e in
+    let g = all2 (is_ascii_digit b) (leb (v * 10 + (b - 48)) 4294967295) f.1 in
     record {
       some = eqb-false v 0 (not-is-true (eqb v 0) f.0);
       digit = digit b g.0;
@@ -46,9 +45,9 @@ extending v b e =
 does-extend : (v b : ℕ) → Extends v b → extends v b ≡ true
 unfolding extends
 does-extend v b x =
-    both_true (not (eqb v 0)) (is_digit b && leb (v * 10 + (b - 48)) 4294967295)
+    both_true (not (eqb v 0)) (is_ascii_digit b && leb (v * 10 + (b - 48)) 4294967295)
     (ap not (ne_eqb v 0 x.some))
-    (both_true (is_digit b) (leb (v * 10 + (b - 48)) 4294967295) (digit_is b x.digit) (le-leb _ _ x.fits))
+    (both_true (is_ascii_digit b) (leb (v * 10 + (b - 48)) 4294967295) (digit_is b x.digit) (le-leb _ _ x.fits))
 
 -- ---- a scan, byte after byte
 
@@ -69,13 +68,13 @@ pub scan-end : (v : ℕ) → scan_on v [] ≡ found v []
 unfolding scan_on
 scan-end v = refl
 
-pub scan-digit : (b : ℕ) (s : List ℕ) → is_digit b ≡ true → scan (b ∷ s) ≡ scan_on (b - 48) s
+pub scan-digit : (b : ℕ) (s : List ℕ) → is_ascii_digit b ≡ true → scan (b ∷ s) ≡ scan_on (b - 48) s
 unfolding scan
-scan-digit b s e = pick_yes (is_digit b) _ _ e
+scan-digit b s e = pick_yes (is_ascii_digit b) _ _ e
 
-pub scan-other : (b : ℕ) (s : List ℕ) → is_digit b ≡ false → scan (b ∷ s) ≡ failed
+pub scan-other : (b : ℕ) (s : List ℕ) → is_ascii_digit b ≡ false → scan (b ∷ s) ≡ failed
 unfolding scan
-scan-other b s e = pick-not (is_digit b) _ _ e
+scan-other b s e = pick-not (is_ascii_digit b) _ _ e
 
 pub scan-nothing : scan [] ≡ failed
 unfolding scan
@@ -145,7 +144,7 @@ scan-on-good (b ∷ s) v h = by_bool (eqb b 32)
 
 scan_good : (s : List ℕ) → Good s (scan s)
 scan_good [] = subst (Good []) (sym scan-nothing) (λ f. absurd (false≢true f))
-scan_good (b ∷ s) = by_bool (is_digit b)
+scan_good (b ∷ s) = by_bool (is_ascii_digit b)
     (λ e. let d : Digit b = digit b e in
     let back : 48 + (b - 48) ≡ b = omega (arith, d.low) in
     let text : numeral (b - 48) ++ s ≡ b ∷ s =

@@ -18,7 +18,7 @@ pub fn line_end(buf: &[u8], from: usize, to: usize) -> usize
     requires { (from ≤ to) × (to ≤ length buf.now) }
     ensures { EndsLine buf.now from to result }
 {
-    match memchr::memchr(10, &buf[from..to]) {
+    match memchr::memchr(b'\n', &buf[from..to]) {
         Some(i) => from + i,
         None => to,
     }

@@ -3,29 +3,15 @@ ghost use Rattle.std.specs.Prelude.{◌≤◌, ◌≡◌, ◌≢◌, length};
 ghost use Rattle.rules.specs.Limit as Limit;
 ghost use Rattle.script_text.specs.Lines.{most_numbers};
 ghost use Rattle.script_text.specs.Scan.{NoDigit, Near, ScanOnIs, NumberAt, ReadIs, LineIs};
-ghost use Rattle.script_text.specs.Scan.{is_digit, extends as Scan·extends};
+ghost use Rattle.script_text.specs.Scan.{extends as Scan·extends};
 
 use crate::lines::{LARGEST, LONGEST};
 
 // A number, and the place after it.
 #[derive(Clone, Copy)]
 struct Number {
-    pub ok: bool,
     pub value: u32,
     pub end: usize,
-}
-
-// Whether a line says numbers, and how many.
-#[derive(Clone, Copy)]
-struct Read {
-    pub ok: bool,
-    pub count: usize,
-}
-
-fn is_digit(b: u8) -> bool
-    ensures { result ≡ is_digit b }
-{
-    48 <= b && b <= 57
 }
 
 // Byte b goes on with a number whose digits so far say `value`, which is not 0.
@@ -33,129 +19,93 @@ fn extends(value: u64, b: u8) -> bool
     requires { (value ≢ 0) × (value ≤ Limit.word) }
     ensures { result ≡ Scan·extends value b }
 {
-    if is_digit(b) {
-        return value * 10 + (b - 48) as u64 <= LARGEST;
-    }
-    false
+    b.is_ascii_digit() && value * 10 + (b - b'0') as u64 <= LARGEST
 }
 
 // What goes on from place `at`, after digits that say `first`, which is not 0.
-fn digits_on(line: &[u8], at: usize, first: u64) -> Number
-    requires fact_1 { at ≤ length line.now }
-    requires fact_2 { (first ≢ 0) × (first ≤ Limit.word) }
+fn digits_on(line: &[u8], at: usize, first: u64) -> Option<Number>
+    requires place { at ≤ length line.now }
+    requires first { (first ≢ 0) × (first ≤ Limit.word) }
     ensures { ScanOnIs line.now at first result }
 {
     let mut value = first;
-    let mut i = at;
-    while i < line.len() {
+    for i in at..line.len() {
         let b = line[i];
         if extends(value, b) {
-            value = value * 10 + (b - 48) as u64;
-            i += 1;
-        } else if b == 32 {
-            return Number {
-                ok: true,
+            value = value * 10 + (b - b'0') as u64;
+        } else if b == b' ' {
+            return Some(Number {
                 value: value as u32,
                 end: i,
-            };
+            });
         } else {
-            return Number {
-                ok: false,
-                value: 0,
-                end: line.len(),
-            };
+            return None;
         }
     }
-    Number {
-        ok: true,
+    Some(Number {
         value: value as u32,
         end: line.len(),
-    }
+    })
 }
 
 // What goes on from place `at`, after a first digit 0: "no leading zeros".
-fn zero_on(line: &[u8], at: usize) -> Number
+fn zero_on(line: &[u8], at: usize) -> Option<Number>
     requires { at ≤ length line.now }
     ensures { ScanOnIs line.now at 0 result }
 {
-    if at < line.len() {
-        if line[at] == 32 {
-            return Number {
-                ok: true,
-                value: 0,
-                end: at,
-            };
-        }
-        return Number {
-            ok: false,
-            value: 0,
-            end: line.len(),
-        };
+    if at < line.len() && line[at] != b' ' {
+        return None;
     }
-    Number {
-        ok: true,
-        value: 0,
-        end: line.len(),
-    }
+    Some(Number { value: 0, end: at })
 }
 
 // The number at place `at`: its digits, to a space or the line's end.
-fn number_at(line: &[u8], at: usize) -> Number
+fn number_at(line: &[u8], at: usize) -> Option<Number>
     ensures { NumberAt line.now at result }
 {
     if at < line.len() {
         let b = line[at];
-        if b == 48 {
+        if b == b'0' {
             return zero_on(line, at + 1);
         }
-        if is_digit(b) {
-            return digits_on(line, at + 1, (b - 48) as u64);
+        if b.is_ascii_digit() {
+            return digits_on(line, at + 1, (b - b'0') as u64);
         }
     }
-    Number {
-        ok: false,
-        value: 0,
-        end: line.len(),
-    }
+    None
 }
 
 // What goes on from place `end`, where no digit stands, after digits that say `value`, which is not 0.
-fn no_digit_on(line: &[u8], end: usize, value: u64) -> Number
+fn no_digit_on(line: &[u8], end: usize, value: u64) -> Option<Number>
     requires { NoDigit line.now end value }
     ensures { ScanOnIs line.now end value result }
 {
-    if line[end] == 32 {
-        return Number {
-            ok: true,
+    if line[end] == b' ' {
+        return Some(Number {
             value: value as u32,
             end,
-        };
+        });
     }
-    Number {
-        ok: false,
-        value: 0,
-        end: line.len(),
-    }
+    None
 }
 
 // What goes on from place `at`, after a first digit that is not 0. Three bytes follow: two digits of them need no test of
 // the line's end, and make no number that is too large.
-fn near_on(line: &[u8], at: usize, first: u64) -> Number
+fn near_on(line: &[u8], at: usize, first: u64) -> Option<Number>
     requires { Near line.now at first }
     ensures { ScanOnIs line.now at first result }
 {
     let b = line[at];
-    if is_digit(b) {
-        let second = first * 10 + (b as u64 - 48);
+    if b.is_ascii_digit() {
+        let second = first * 10 + (b - b'0') as u64;
         let c = line[at + 1];
-        if is_digit(c) {
-            let third = second * 10 + (c as u64 - 48);
-            if line[at + 2] == 32 {
-                return Number {
-                    ok: true,
+        if c.is_ascii_digit() {
+            let third = second * 10 + (c - b'0') as u64;
+            if line[at + 2] == b' ' {
+                return Some(Number {
                     value: third as u32,
                     end: at + 2,
-                };
+                });
             }
             return digits_on(line, at + 2, third);
         }
@@ -165,45 +115,38 @@ fn near_on(line: &[u8], at: usize, first: u64) -> Number
 }
 
 // The number at place `at`, by the short way where the line's end is not near.
-fn next_at(line: &[u8], at: usize) -> Number
+fn next_at(line: &[u8], at: usize) -> Option<Number>
     requires { at ≤ length line.now }
     ensures { NumberAt line.now at result }
 {
     if at + 4 <= line.len() {
         let b = line[at];
-        if 49 <= b {
-            if b <= 57 {
-                return near_on(line, at + 1, b as u64 - 48);
-            }
+        if b'1' <= b && b <= b'9' {
+            return near_on(line, at + 1, (b - b'0') as u64);
         }
     }
     number_at(line, at)
 }
 
-// The numbers of a line, into the front of `out`.
-fn read_numbers(line: &[u8], out: &mut [u32]) -> Read
+// The numbers of a line, into the front of `out`, and how many they are.
+fn read_numbers(line: &[u8], out: &mut [u32]) -> Option<usize>
     ensures { ReadIs line.now out.old out.new result }
 {
     let mut at = 0;
-    let mut count = 0;
-    while count < out.len() {
-        let n = next_at(line, at);
-        if n.ok {
-            let end = n.end;
-            out[count] = n.value;
-            count += 1;
-            if end == line.len() {
-                return Read { ok: true, count };
-            }
-            at = end + 1;
-        } else {
-            return Read { ok: false, count };
+    for count in 0..out.len() {
+        let n = next_at(line, at)?;
+        out[count] = n.value;
+        if n.end == line.len() {
+            return Some(count + 1);
         }
+        at = n.end + 1;
     }
-    Read { ok: false, count }
+    None
 }
 
-// The numbers that a line has, into the front of `out`, and how many they are: none of a bad line.
+// The numbers that a line has, into the front of `out`, and how many they are. A bad line has none, as the rules have it: each
+// caller goes on with no numbers, which no call has and line one neither.
+// kept: 0 for a bad line in place of an Option, since `play_line` and `start` would turn its None into no numbers at once
 pub fn read_line(line: &[u8], out: &mut [u32]) -> usize
     requires { most_numbers ≤ length out.old }
     ensures { LineIs line.now out.old out.new result }
@@ -211,9 +154,5 @@ pub fn read_line(line: &[u8], out: &mut [u32]) -> usize
     if line.len() > LONGEST {
         return 0;
     }
-    let read = read_numbers(line, out);
-    if read.ok {
-        return read.count;
-    }
-    0
+    read_numbers(line, out).unwrap_or(0)
 }

@@ -34,20 +34,13 @@ fn digits_in(n: u64) -> usize
     k
 }
 
-// The digits of n, from the last back.
+// The digits of n. The kit's writer goes back from their end.
 pub fn put_digits(out: &mut [u8], at: usize, n: u64) -> usize
     requires { at + length (numeral n) ≤ length out.old }
     ensures { Wrote out.old at (numeral n) out.new result }
 {
     let end = at + digits_in(n);
-    let mut i = end;
-    let mut rest = n;
-    while rest >= 10 {
-        i -= 1;
-        out[i] = 48 + (rest % 10) as u8;
-        rest /= 10;
-    }
-    out[at] = 48 + rest as u8;
+    itoa::write_digits(n, out, end);
     end
 }
 
@@ -65,11 +58,9 @@ pub fn put_after(out: &mut [u8], at: usize, numbers: &[u32]) -> usize
     ensures { Put (11 * length numbers.now) out.old at (after numbers.now) out.new result }
 {
     let mut p = at;
-    let mut i = 0;
-    while i < numbers.len() {
-        let q = put_byte(out, p, 32);
-        p = put_number(out, q, numbers[i]);
-        i += 1;
+    for number in numbers {
+        let q = put_byte(out, p, b' ');
+        p = put_number(out, q, *number);
     }
     p
 }
@@ -81,5 +72,5 @@ pub fn put_line(out: &mut [u8], at: usize, first: u64, others: &[u32]) -> usize
 {
     let p = put_digits(out, at, first);
     let q = put_after(out, p, others);
-    put_byte(out, q, 10)
+    put_byte(out, q, b'\n')
 }

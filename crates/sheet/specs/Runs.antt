@@ -1,39 +1,36 @@
 -- What holds of a run between two lines and between two turns.
 use Rattle.std.specs.Prelude.{ℕ, ◌+◌, ◌≤◌, ◌≡◌, List, length}
-use Rattle.script_play.specs.Plays.{Working}
-use Rattle.script_driver.specs.Stores.{Store, Formed}
+use Rattle.script_play.specs.declared.workspace.Workspace.{Workspace}
+use Rattle.script_play.specs.Workspace.{Works}
+use Rattle.script_driver.specs.Stores.{Formed}
 use Rattle.script_driver.specs.Contract as Contract
 use Rattle.script_driver.specs.Contract.{LAST}
 use Rattle.script_driver.specs.Turns.{HELD}
-use Rattle.script_driver.specs.Parts.{run_of}
+use Rattle.script_driver.specs.Parts.{store_in, run_of}
 use Rattle.script_driver.specs.declared.Run.{Run}
-use Rattle.sheet.specs.declared.state.Stand.{Stand}
 
 -- the size of the input buffer
 abbrev pub BUFFER : ℕ
 BUFFER = 65536
 
 -- the driver stands, in its working room
-pub record Stands (s : Store) (held ns ts bs ss : List ℕ) (r : Run) : Type 0 where
-  pub stands : Contract.Stands s held (run_of r)
-  pub working : Working ns ts bs ss
+pub record Stands (w : Workspace) (held : List ℕ) (r : Run) : Type 0 where
+  pub stands : Contract.Stands (store_in w) held (run_of r)
+  pub working : Works w
 
 -- a line, or more, or a part of one; its lines can be counted
-pub record LineAsks (s : Store) (held ns ts bs ss window : List ℕ) (r : Run) : Type 0 where
-  pub stands : Stands s held ns ts bs ss r
+pub record LineAsks (w : Workspace) (held window : List ℕ) (r : Run) : Type 0 where
+  pub stands : Stands w held r
   pub counted : r.number + length window ≤ LAST
 
 -- r at entry, r' at exit
-pub record RunDone (s : Store) (held ns ts bs ss window : List ℕ) (r r' : Run) : Type 0 where
-  pub stands : Stands s held ns ts bs ss r'
+pub record RunDone (w : Workspace) (held window : List ℕ) (r r' : Run) : Type 0 where
+  pub stands : Stands w held r'
   pub number : r'.number ≤ r.number + length window
 
-abbrev pub StandDone : Store → List ℕ → List ℕ → List ℕ → List ℕ → List ℕ → List ℕ → Run → Stand → Type 0
-StandDone s held ns ts bs ss window r x = RunDone s held ns ts bs ss window r x.run
-
 -- before the first turn
-pub record Begins (s : Store) (held ns ts bs ss input : List ℕ) : Type 0 where
-  pub formed : Formed s
+pub record Begins (w : Workspace) (held input : List ℕ) : Type 0 where
+  pub formed : Formed (store_in w)
   pub size : length held ≡ HELD
-  pub working : Working ns ts bs ss
+  pub working : Works w
   pub input-size : length input ≡ BUFFER

@@ -2,23 +2,21 @@
 // text for a person: what each done delete or rename ended, then each object with its tree.
 #![tactic(auto)]
 
-ghost use Rattle.std.specs.Prelude.{◌+◌, ◌≤◌, length};
-ghost use Rattle.script_driver.specs.Parts.{store};
+ghost use Rattle.std.specs.Prelude.{◌≤◌, length};
 ghost use Rattle.sheet.specs.Runs.{Begins};
 
 mod lines;
-mod state;
 
 use kernel_fresh::fresh;
 use layout::{BYTES, LINKS, WORDS};
-use lines::play_window;
+use lines::{Output, drawn, play_window};
 use script_driver::Run;
 use script_driver::line::HELD;
+use script_play::workspace::Workspace;
 use script_text::lines::NUMBERS;
-use sheet_draw::draw::put_objects;
-use sheet_draw::output::{put, write_out};
-use state::Stand;
-use std::io::{Read, Stdin, Stdout};
+use sheet_draw::draw::Objects;
+use sheet_draw::store::Store;
+use std::io::{self, BufWriter, Read, Stdin, Write};
 use values::limit::{MIN_BUFFER, MIN_SCRATCH};
 
 // So many turns, of 65,536 bytes at most, that no run uses them up, and that their lines can be counted in 64 bits.
@@ -37,83 +35,46 @@ fn give_end(input: &mut [u8], came: usize, count: usize) -> usize
     came
 }
 
-// How many turns are left: none, where nothing came.
-fn turns_left(turns: u64, came: usize) -> u64
-    requires { 1 ≤ turns }
-    ensures { result + 1 ≤ turns }
-{
-    if came == 0 {
-        return 0;
-    }
-    turns - 1
-}
-
-// Reads and plays, turn after turn, until nothing comes; nothing says that the input ends, so the turns are counted down.
+// Reads and plays, turn after turn, until nothing comes; nothing says that the input ends, so the turns are counted.
 fn play_all(
-    bytes: &mut [u8],
-    links: &mut [u16],
-    words: &mut [u32],
-    numbers: &mut [u32],
-    text: &mut [u8],
-    buffer: &mut [u8],
-    scratch: &mut [u16],
+    room: &mut Workspace,
     held: &mut [u8],
     mut stdin: Stdin,
     input: &mut [u8],
-    stdout: Stdout,
-    out: &mut [u8],
-) -> Stand
-    requires { Begins (store bytes.old links.old words.old) held.old numbers.old text.old buffer.old scratch.old
-        input.old }
+    out: &mut Output,
+) -> Run
+    requires { Begins room.old held.old input.old }
 {
-    let begun = Run {
+    let mut run = Run {
         number: 0,
         bad: false,
         count: 0,
         at: 0,
     };
-    let mut stand = Stand { run: begun, at: 0 };
-    let mut turns = TURNS;
-    while turns > 0 {
+    for _turn in 0..TURNS {
         let came = stdin.read(input).unwrap_or(0);
-        let run = stand.run;
         let n = give_end(input, came, run.count);
-        stand = play_window(
-            bytes,
-            links,
-            words,
-            numbers,
-            text,
-            buffer,
-            scratch,
-            held,
-            &input[..n],
-            stdout,
-            out,
-            stand,
-        );
-        turns = turns_left(turns, came);
+        run = play_window(room, held, &input[..n], out, run);
+        if came == 0 {
+            break;
+        }
     }
-    stand
+    run
 }
 
 // "Line one .. if bad or absent, `0 2` is all it writes"; else the objects.
-fn put_end(
-    bytes: &[u8],
-    links: &[u16],
-    words: &[u32],
-    stdout: Stdout,
-    out: &mut [u8],
-    stand: Stand,
-) -> usize {
-    let run = stand.run;
+fn put_end(store: Store<'_>, out: &mut Output, run: Run) -> io::Result<()> {
     if run.number == 0 {
-        return put(stdout, out, stand.at, b"0 2\n");
+        writeln!(out, "0 2")?;
+    } else {
+        let objects = Objects(store);
+        write!(out, "{objects}")?;
     }
-    put_objects(bytes, links, words, stdout, out, stand.at)
+    out.flush()
 }
 
-fn main(rt: HostRuntime) {
+// The whole run, from the input to the output.
+fn run(stdin: Stdin, mut out: Output) {
     let mut bytes = [0u8; BYTES];
     let mut links = [0u16; LINKS];
     let mut words = [0u32; WORDS];
@@ -123,23 +84,30 @@ fn main(rt: HostRuntime) {
     let mut scratch = [0u16; MIN_SCRATCH];
     let mut held = [0u8; HELD];
     let mut input = [0u8; 65536];
-    let mut out = [0u8; 65536];
     // a store with no money, until line one says what it holds
-    fresh(0, [0, 0], &mut bytes, &mut links, &mut words);
-    let stand = play_all(
-        &mut bytes,
-        &mut links,
-        &mut words,
-        &mut numbers,
-        &mut text,
-        &mut buffer,
-        &mut scratch,
-        &mut held,
-        rt.stdin(),
-        &mut input,
-        rt.stdout(),
-        &mut out,
-    );
-    let at = put_end(&bytes, &links, &words, rt.stdout(), &mut out, stand);
-    write_out(rt.stdout(), &out, at);
+    let _ = fresh(0, [0, 0], &mut bytes, &mut links, &mut words);
+    let mut room = Workspace {
+        bytes: &mut bytes,
+        links: &mut links,
+        words: &mut words,
+        numbers: &mut numbers,
+        text: &mut text,
+        buffer: &mut buffer,
+        scratch: &mut scratch,
+    };
+    let last = play_all(&mut room, &mut held, stdin, &mut input, &mut out);
+    // what cannot be written is left out, and nothing comes after it
+    let _ = put_end(drawn(&room), &mut out, last);
+}
+
+// A buffer before what is written; where there is no memory for it, each piece is written as it comes.
+fn output(rt: &HostRuntime) -> Output {
+    match BufWriter::with_capacity(rt.alloc(), 65536, rt.stdout()) {
+        Ok(out) => out,
+        Err(_) => BufWriter::with_capacity(rt.alloc(), 0, rt.stdout()).unwrap(),
+    }
+}
+
+fn main(rt: HostRuntime) {
+    run(rt.stdin(), output(&rt));
 }

@@ -1,135 +1,127 @@
 // What a line ended: the capabilities that lived before it and do not live after it. A new master may take an ended
 // one's slot: its password is another.
-use crate::fields::{byte, link, set_word, word};
-use crate::output::{put, put_byte, put_long, put_two};
-use std::io::Stdout;
+ghost use Rattle.std.specs.Prelude.{◌≡◌, ◌≢◌};
+
+use crate::store::Store;
+use std::{array, fmt};
 use values::limit::MAX_CAPS;
 
-// The last slot of a capability.
-const LAST_CAP: u16 = MAX_CAPS as u16;
+// The cells of a row of capabilities: slot 0 is no capability's.
+const SLOTS: usize = MAX_CAPS + 1;
 
-// How many cells what is noted takes: five rows of 513.
-pub const NOTED: usize = 2565;
-
-// The rows of what is noted of each capability before a line; a row has 513 cells.
-const OWNER: usize = 0;
-
-const VOLUME: usize = 513;
-
-const SERIAL: usize = 1026;
-
-const P1: usize = 1539;
-
-const P2: usize = 2052;
-
-// Notes a capability: its object's slot and name, and its password.
-fn note_cap(bytes: &[u8], links: &[u16], words: &[u32], before: &mut [u32], cap: u16) {
-    let owner = link(links, layout::OWNER, cap);
-    let volume = byte(bytes, layout::VOLUME, owner) as u32;
-    let serial = link(links, layout::SERIAL, owner) as u32;
-    set_word(before, OWNER, cap, owner as u32);
-    set_word(before, VOLUME, cap, volume);
-    set_word(before, SERIAL, cap, serial);
-    set_word(before, P1, cap, word(words, layout::P1, cap));
-    set_word(before, P2, cap, word(words, layout::P2, cap));
+// A call that may end capabilities.
+#[derive(Clone, Copy)]
+pub enum Ending {
+    DeleteCap,
+    RenameObj,
 }
 
-pub fn note_all(bytes: &[u8], links: &[u16], words: &[u32], before: &mut [u32]) {
-    let mut cap: u16 = 1;
-    while cap <= LAST_CAP {
-        note_cap(bytes, links, words, before, cap);
-        cap += 1;
-    }
-}
-
-// It lived before, and now its slot is free or has another password.
-fn has_ended(links: &[u16], words: &[u32], before: &[u32], cap: u16) -> bool {
-    if word(before, OWNER, cap) == 0 {
-        return false;
-    }
-    if link(links, layout::OWNER, cap) == 0 {
-        return true;
-    }
-    if word(before, P1, cap) == word(words, layout::P1, cap) {
-        return word(before, P2, cap) != word(words, layout::P2, cap);
-    }
-    true
-}
-
-// A done delete or rename ends one capability at least, and a refused one none.
-fn any_ended(links: &[u16], words: &[u32], before: &[u32]) -> bool {
-    let mut cap: u16 = 1;
-    while cap <= LAST_CAP {
-        if has_ended(links, words, before, cap) {
-            return true;
+impl Ending {
+    // The call of a line that begins with this digit alone.
+    pub fn of_digit(digit: u8) -> Option<Ending>
+        ensures delete { digit ≡ 54 → result ≡ Some Ending.DeleteCap }
+        ensures rename { digit ≡ 55 → result ≡ Some Ending.RenameObj }
+        ensures other { digit ≢ 54 → digit ≢ 55 → result ≡ None }
+    {
+        match digit {
+            b'6' => Some(Ending::DeleteCap),
+            b'7' => Some(Ending::RenameObj),
+            _ => None,
         }
-        cap += 1;
     }
-    false
 }
 
-// An ended capability's line: volume, serial, p1, p2.
-fn put_noted(before: &[u32], stdout: Stdout, out: &mut [u8], at: usize, cap: u16) -> usize {
-    let volume = word(before, VOLUME, cap);
-    let serial = word(before, SERIAL, cap);
-    let p1 = word(before, P1, cap);
-    let p2 = word(before, P2, cap);
-    let a = put(stdout, out, at, b"    ");
-    let b = put_two(stdout, out, a, volume, serial);
-    let c = put_byte(stdout, out, b, 32);
-    let d = put_two(stdout, out, c, p1, p2);
-    put_byte(stdout, out, d, 10)
+impl fmt::Display for Ending {
+    fn fmt<W: fmt::Write>(&self, f: &mut fmt::Formatter<W>) -> fmt::Result {
+        match self {
+            Ending::DeleteCap => write!(f, "delete_cap"),
+            Ending::RenameObj => write!(f, "rename_obj"),
+        }
+    }
 }
 
-fn put_if_ended(
-    links: &[u16],
-    words: &[u32],
-    before: &[u32],
-    stdout: Stdout,
-    out: &mut [u8],
-    at: usize,
-    cap: u16,
-) -> usize {
-    if has_ended(links, words, before, cap) {
-        return put_noted(before, stdout, out, at, cap);
-    }
-    at
+// What is noted of a capability that lives: its object's name, and its password.
+#[derive(Clone, Copy)]
+struct Noted {
+    volume: u8,
+    serial: u16,
+    p1: u32,
+    p2: u32,
 }
 
-// All that have ended, from the last slot down, as a fresh store hands them out.
-fn put_all_ended(
-    links: &[u16],
-    words: &[u32],
-    before: &[u32],
-    stdout: Stdout,
-    out: &mut [u8],
-    at: usize,
-) -> usize {
-    let mut p = at;
-    let mut cap: u16 = LAST_CAP;
-    while 0 < cap {
-        p = put_if_ended(links, words, before, stdout, out, p, cap);
-        cap -= 1;
+impl Noted {
+    // The capability in this slot; none, where the slot is free.
+    fn of(store: Store<'_>, cap: usize) -> Option<Noted> {
+        let owner = store.linked(layout::OWNER, cap)?;
+        Some(Noted {
+            volume: store.byte(layout::VOLUME, owner),
+            serial: store.link(layout::SERIAL, owner),
+            p1: store.word(layout::P1, cap),
+            p2: store.word(layout::P2, cap),
+        })
     }
-    p
 }
 
-// The line's number and its call, and what it ended, if it ended anything.
-pub fn put_ending(
-    links: &[u16],
-    words: &[u32],
-    before: &[u32],
-    stdout: Stdout,
-    out: &mut [u8],
-    at: usize,
-    number: u64,
-    call: &[u8],
-) -> usize {
-    if any_ended(links, words, before) {
-        let a = put(stdout, out, at, b"line ");
-        let b = put_long(stdout, out, a, number);
-        let c = put(stdout, out, b, call);
-        return put_all_ended(links, words, before, stdout, out, c);
+impl fmt::Display for Noted {
+    fn fmt<W: fmt::Write>(&self, f: &mut fmt::Formatter<W>) -> fmt::Result {
+        let Noted {
+            volume,
+            serial,
+            p1,
+            p2,
+        } = *self;
+        write!(f, "{volume} {serial} {p1} {p2}")
     }
-    at
+}
+
+// What lived before a line, by slot.
+#[derive(Drop)]
+pub struct Living([Option<Noted>; SLOTS]);
+
+impl Living {
+    pub fn nothing() -> Living {
+        Living([None; SLOTS])
+    }
+
+    pub fn of(store: Store<'_>) -> Living {
+        Living(array::from_fn(|cap| Noted::of(store, cap)))
+    }
+}
+
+// A line's number and its call, and each capability that it ended; nothing, if it ended none. A done delete or rename
+// ends one at least, and a refused one none.
+#[derive(Clone, Copy)]
+pub struct Ended<'b, 'a> {
+    pub before: &'b Living,
+    pub after: Store<'a>,
+    pub line: u64,
+    pub call: Ending,
+}
+
+impl Ended<'_, '_> {
+    // It lived before, and now its slot is free or has another password.
+    fn ended(&self, cap: usize) -> Option<Noted> {
+        let noted = self.before.0.get(cap).copied().flatten()?;
+        match Noted::of(self.after, cap) {
+            Some(now) if now.p1 == noted.p1 && now.p2 == noted.p2 => None,
+            _ => Some(noted),
+        }
+    }
+}
+
+impl fmt::Display for Ended<'_, '_> {
+    fn fmt<W: fmt::Write>(&self, f: &mut fmt::Formatter<W>) -> fmt::Result {
+        if !(1..=MAX_CAPS).any(|cap| self.ended(cap).is_some()) {
+            return Ok(());
+        }
+        let Ended { line, call, .. } = *self;
+        writeln!(f, "line {line}: {call} ended")?;
+        // from the last slot down, as a fresh store hands them out
+        for cap in (1..=MAX_CAPS).rev() {
+            if let Some(noted) = self.ended(cap) {
+                writeln!(f, "    {noted}")?;
+            }
+        }
+        Ok(())
+    }
 }

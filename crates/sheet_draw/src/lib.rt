@@ -3,6 +3,6 @@
 
 pub mod draw;
 pub mod ended;
-mod fields;
-pub mod output;
 mod rights;
+pub mod store;
+mod walk;

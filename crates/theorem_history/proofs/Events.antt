@@ -11,8 +11,8 @@ use Rattle.rules.specs.Demand.{Allowed}
 use Rattle.layout.specs.View.{view}
 use Rattle.layout.specs.WellFormed.{WellFormed}
 use Rattle.call_steps.specs.declared.request.Request.{Request}
-use Rattle.call_steps.specs.declared.request.Reply.{Reply}
-use Rattle.call_steps.specs.Request.{answer_of}
+use Rattle.call_steps.specs.Request.{Reply, answer_of, count_of}
+use Rattle.call_steps.proofs.Replying.{answer-code}
 use Rattle.kernel_step.specs.Slices.{Slices}
 use Rattle.kernel_step.specs.Steps.{Steps, front}
 use Rattle.kernel_call.specs.Calls.{Calls}
@@ -42,7 +42,7 @@ pub record Inner (k : Way) (q : Request) (text : List ℕ) (r : Reply) (was : Sl
   pub leaves : Slices
   pub call : Calls q (text_by k text) r was leaves
   pub store : z ≡ store_in leaves
-  pub buffer-is : buffer ≡ buffer_by k r.count leaves.buffer
+  pub buffer-is : buffer ≡ buffer_by k (count_of r) leaves.buffer
 
 inner : (k : Way) (scratch : List ℕ) {q : Request} {text : List ℕ} {r : Reply} {was : Slices} {z : Store} {buffer : List ℕ}
     → Contract k q text r was (lent z buffer scratch) → Inner k q text r was z buffer
@@ -84,5 +84,7 @@ module _ (s : Store) (e : Event) (W : Formed s) (h : Happens s e) where
   })
 
   pub done-is : Rule.is_done (rule (means s) (call_at e) stepped.choice) ≡ is_done e
-  unfolding Rule.is_done answer_of
-  done-is = ap (λ (o : Outcome). eqb o.answer.code 0) outcome
+  unfolding Rule.is_done
+  done-is =
+      ap (λ (o : Outcome). eqb o.answer.code 0) outcome
+      ∙ ap (λ (n : ℕ). eqb n 0) (answer-code e.reply (front e.reply (within s e h).leaves))

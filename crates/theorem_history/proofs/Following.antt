@@ -20,7 +20,6 @@ use Rattle.layout.specs.WellFormed.{Sized}
 use Rattle.kernel_fresh.specs.Fresh.{Fresh}
 use Rattle.kernel_fresh.specs.Slices.{fresh_bytes, fresh_links, fresh_words}
 use Rattle.call_steps.specs.Request.{call_of}
-use Rattle.kernel_step.specs.Steps.{front}
 use Rattle.theorem_history.specs.History.{Store, Event, call_at, Happens, Runs, last_store, is_done, booked, after}
 use Rattle.theorem_history.specs.History.{Demand3, MailWakes}
 use Rattle.theorem_history.proofs.Events.{means, Formed, stepped, formed-next, allowed, outcome, done-is}

@@ -13,12 +13,14 @@ use borrow.Author.Tests.{eqb-true}
 use Rattle.rules.specs.Code as Code
 use Rattle.rules.specs.Store.{Name, Window, State, object_named}
 use Rattle.rules.specs.Rights.{read, write}
-use Rattle.rules.specs.Call.{Answer, Outcome, code}
+use Rattle.rules.specs.Call.{Outcome}
 use Rattle.rules.specs.Rule as Rule
 use Rattle.rules.specs.Rule.{rule}
 use Rattle.rules.specs.Valid as Valid
 use Rattle.rules.proofs.Undoing as Rules
-use Rattle.call_steps.specs.Request.{call_of, answer_of}
+use Rattle.values.specs.Refusals.{code_of}
+use Rattle.call_steps.specs.Request.{call_of, count_of}
+use Rattle.call_steps.proofs.Replying.{answer-bytes, refused-code}
 use Rattle.kernel_step.specs.Steps.{front}
 use Rattle.kernel_call.proofs.Calling.{either_way}
 use Rattle.product_hooks.specs.Turned.{turned, turned_front}
@@ -36,10 +38,9 @@ bytes_at s n v = Rules.range_of (means s) n v
 
 -- a done call was made on a well-formed store
 done-formed : (s : Store) (e : Event) → Happens s e → is_done e ≡ true → (Formed s → ⊥) → ⊥
-unfolding answer_of code
 done-formed s e h d bad =
-    let refused = ap (λ (a : Answer). a.code) ((within s e h).call.unsound bad).reply.answer in
-    omega (arith, refused, eqb-true e.reply.code Code.done d)
+    let refused = refused-code ((within s e h).call.unsound bad).reply in
+    omega (arith, refused, eqb-true (code_of e.reply) Code.done d)
 
 module _ (s : Store) (e : Event) (W : Formed s) (h : Happens s e) where
   abbrev result : Outcome
@@ -73,13 +74,13 @@ module _ (s : Store) (e : Event) (W : Formed s) (h : Happens s e) where
       (λ is d. spares is (sym (done-is s e W h) ∙ d))
 
   -- the read
-  given : DoneByHook read e → take e.reply.count e.buffer-after ≡ turned (bytes_at s (target e) (range_of e))
-  unfolding call_of answer_of turned_front
+  given : DoneByHook read e → take (count_of e.reply) e.buffer-after ≡ turned (bytes_at s (target e) (range_of e))
+  unfolding call_of turned_front
   given d =
-      let n : ℕ = e.reply.count in
+      let n : ℕ = count_of e.reply in
       let inner = within s e h in
       let read_is : front e.reply inner.leaves ≡ bytes_at s (target e) (range_of e) =
-      sym (ap (λ (o : Outcome). o.answer.bytes) (outcome s e W h))
+      sym (ap (λ (o : Outcome). o.answer.bytes) (outcome s e W h) ∙ answer-bytes e.reply (front e.reply inner.leaves))
       ∙ Rules.read-gives (means s) valid (call_at e) (stepped s e W h).choice d.kind (rule-done d.done) in
       ap (take n) (inner.buffer-is ∙ ap (λ k. buffer_by k n inner.leaves.buffer) d.by-hook)
       ∙ take_at (turned (take n inner.leaves.buffer)) (drop n inner.leaves.buffer) n
@@ -106,7 +107,7 @@ reached n v xs r s (d ∷ es) W h lives e on =
 -- ---- the three together
 
 undone : (s : Store) (w : Event) (es : List Event) (r : Event) → Formed s → Runs s (w ∷ es ++ r ∷ []) → Between w es r
-    → Bytes w.text → take r.reply.count r.buffer-after ≡ w.text
+    → Bytes w.text → take (count_of r.reply) r.buffer-after ≡ w.text
 unfolding Runs Twice
 undone s w es r W h b small =
     let x = written s w W h.0 b.writes in
@@ -120,6 +121,6 @@ undone s w es r W h b small =
 
 pub undoes : Undoes
 unfolding Undoes Runs
-undoes s w es r h b small = either_way (List-discrete ℕ_discrete (take r.reply.count r.buffer-after) w.text)
+undoes s w es r h b small = either_way (List-discrete ℕ_discrete (take (count_of r.reply) r.buffer-after) w.text)
     (λ W. undone s w es r W h b small)
     (λ bad. absurd (done-formed s w h.0 b.writes.done bad))

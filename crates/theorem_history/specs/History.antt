@@ -10,9 +10,9 @@ use Rattle.rules.specs.Demand.{FreshWords, Now, Claims, Ended}
 use Rattle.rules.specs.Theorems.{Awake}
 use Rattle.layout.specs.View.{view}
 use Rattle.kernel_fresh.specs.Fresh.{Fresh}
+use Rattle.values.specs.Refusals.{code_of}
 use Rattle.call_steps.specs.declared.request.Request.{Request}
-use Rattle.call_steps.specs.declared.request.Reply.{Reply}
-use Rattle.call_steps.specs.Request.{call_of}
+use Rattle.call_steps.specs.Request.{Reply, call_of}
 use Rattle.kernel_step.specs.Slices.{Slices, slices}
 use Rattle.kernel_call.specs.Calls.{Calls}
 use Rattle.product_hooks.specs.Turned.{turned}
@@ -76,7 +76,7 @@ last_store s (e ∷ es) = last_store e.store es
 
 -- the call was done
 abbrev pub is_done : Event → Bool
-is_done e = eqb e.reply.code Code.done
+is_done e = eqb (code_of e.reply) Code.done
 
 -- the ledger is fed each call and whether it was done, nothing of the store
 unfoldable pub booked : Ledger → List Event → Ledger

@@ -4,6 +4,7 @@ use Rattle.std.specs.Prelude.{◌≡◌, ◌≢◌, true, List, [], ◌∷◌, �
 use Rattle.rules.specs.Store.{Name, Window, Apart, object_named}
 use Rattle.rules.specs.Rights.{Op, read, write, op}
 use Rattle.layout.specs.View.{view}
+use Rattle.call_steps.specs.Request.{count_of}
 use Rattle.product_hooks.specs.Theorems.{Bytes}
 use Rattle.theorem_history.specs.History.{Store, by_hook, Event, call_at, Runs, is_done}
 
@@ -48,4 +49,4 @@ Undoes =
     → Runs s (w ∷ es ++ r ∷ [])
     → Between w es r
     → Bytes w.text
-    → take r.reply.count r.buffer-after ≡ w.text
+    → take (count_of r.reply) r.buffer-after ≡ w.text

@@ -16,8 +16,8 @@ use Rattle.rules.specs.Script.{nth, line_fits, call_of, answer_of}
 use Rattle.rules.proofs.Tests.{by_bool}
 use Rattle.layout.specs.WellFormed.{Sized}
 use Rattle.call_steps.specs.declared.request.Request.{Request}
-use Rattle.call_steps.specs.declared.request.Reply.{Reply}
 use Rattle.call_steps.specs.Request as Request
+use Rattle.call_steps.specs.Request.{Reply, count_of}
 use Rattle.call_steps.specs.Run.{Ran, overlay}
 use Rattle.kernel_fresh.specs.Fresh.{Fresh}
 use Rattle.kernel_step.specs.Slices.{Slices}
@@ -33,21 +33,23 @@ use Rattle.script_text.specs.Scan.{Means}
 use Rattle.script_text.proofs.Sayings.{means-same}
 use Rattle.script_answers.specs.Ends.{totals_line}
 use Rattle.script_answers.specs.Output.{MeanAll, none, more}
+use Rattle.script_play.specs.Plays.{Said}
 use Rattle.script_play.specs.Starts.{password_in, Begun}
-use Rattle.script_play.proofs.Playing.{line-bad}
+use Rattle.script_play.proofs.Playing.{line-good, line-bad}
 use Rattle.script_driver.specs.Machine.{Fit}
 use Rattle.script_driver.specs.Turns.{opening, closed, playing, At, Goes, good, bad, unplayed, later}
 use Rattle.script_driver.specs.Turns.{Closes, absent, refused, totals, Lines, line}
 use Rattle.script_driver.specs.Turns as Turns
 use Rattle.script_driver.specs.Stores.{Store, Formed, state_of, Played, stores}
 use Rattle.theorem_script.proofs.Following.{means-fit}
+use Rattle.theorem_script.proofs.Replying.{rule-said}
 use Rattle.theorem_script.specs.Events as Events
 use Rattle.theorem_script.specs.Events.{answer_in, MakesCalls, over, call}
 
 abbrev as_store : Store → History.Store
 as_store s = record { bytes = s.bytes; links = s.links; words = s.words }
 
--- ---- a call as a request, an answer as a reply
+-- ---- a call as a request
 
 request_of : Call → Request
 request_of c = record {
@@ -76,28 +78,17 @@ unfolding request_of Request.call_of
 same-call c buffer scratch b s = ap (λ (n : ℕ). Request.call_of (request_of c) c.text n scratch) b
     ∙ ap (λ (n : ℕ). Request.call_of (request_of c) c.text c.buffer n) s
 
-reply_of : Answer → Reply
-reply_of a = record {
-  code = a.code;
-  capability = record {
-    name = record { volume = a.capability.name.volume; serial = a.capability.name.serial };
-    password = a.capability.password.p1 ∷ a.capability.password.p2 ∷ [];
-  };
-  length = a.length;
-  moneyword = a.moneyword;
-  sum = a.sum;
-  count = length a.bytes;
-}
-
-same_answer : (a : Answer) (bytes : List ℕ) → bytes ≡ a.bytes → Request.answer_of (reply_of a) bytes ≡ a
-unfolding reply_of Request.answer_of
-same_answer a bytes e = ap (Request.answer_of (reply_of a)) e
-
 -- the bytes at the buffer's front
 front-is : (bytes buffer : List ℕ) → take (length bytes) (overlay bytes buffer) ≡ bytes
 unfolding overlay
 front-is bytes buffer =
     take-append-le (length bytes) bytes _ (omega arith) ∙ take_all (length bytes) bytes (omega arith)
+
+-- read back from there, a reply that says an answer says it still
+front-says : (a : Answer) (d : Said a) (buffer : List ℕ)
+    → Request.answer_of d.reply (take (count_of d.reply) (overlay a.bytes buffer)) ≡ a
+front-says a d buffer = ap (λ (n : ℕ). Request.answer_of d.reply (take n (overlay a.bytes buffer))) d.count
+    ∙ ap (Request.answer_of d.reply) (front-is a.bytes buffer) ∙ d.is
 
 -- ---- the event of a line that fits its call
 
@@ -108,6 +99,11 @@ module _ {k : ℕ} {s s' : Store} {ns out : List ℕ} (W : Formed s) (p : Played
 
   abbrev a : Answer
   a = p.answer
+
+  -- the answer is the rules', and so some reply's
+  said : Said a
+  said = subst Said (ap (λ (o : Outcome). o.answer) (sym (line-good p.choice (state_of s) ns fits) ∙ p.rules))
+      (rule-said (state_of s) c p.choice)
 
   -- the buffer and the scratch are lent full of zeros
   buffer : List ℕ
@@ -123,7 +119,7 @@ module _ {k : ℕ} {s s' : Store} {ns out : List ℕ} (W : Formed s) (p : Played
     text = c.text;
     buffer = buffer;
     scratch = scratch;
-    reply = reply_of a;
+    reply = said.reply;
     store = as_store s';
     buffer-after = overlay a.bytes buffer;
     scratch_after = scratch_after_call (op c.number) a.code scratch;
@@ -134,8 +130,8 @@ module _ {k : ℕ} {s s' : Store} {ns out : List ℕ} (W : Formed s) (p : Played
   event-call = same-call c _ _ (length-replicate c.buffer 0) (length-replicate c.scratch 0)
 
   event-answer : answer_in event ≡ a
-  unfolding event reply_of
-  event-answer = same_answer a _ (front-is a.bytes buffer)
+  unfolding event
+  event-answer = front-says a said buffer
 
   abbrev was : Slices
   was = lent (as_store s) buffer scratch
@@ -146,10 +142,10 @@ module _ {k : ℕ} {s s' : Store} {ns out : List ℕ} (W : Formed s) (p : Played
   abbrev done : Ran
   done = record { answer = a; bytes = s'.bytes; links = s'.links; words = s'.words }
 
-  ends : Ends c done (reply_of a) was is
-  unfolding event reply_of
+  ends : Ends c done said.reply was is
+  unfolding event
   ends = record {
-    replies = record { answer = event-answer; count = refl; buffer-is = refl };
+    replies = record { answer = event-answer; count = said.count; buffer-is = refl };
     store = record { bytes = refl; links = refl; words = refl };
     scratch = refl;
   }
@@ -157,11 +153,11 @@ module _ {k : ℕ} {s s' : Store} {ns out : List ℕ} (W : Formed s) (p : Played
   event-happens : Happens (as_store s) event
   unfolding event
   event-happens =
-      let run : Ends c (step_run s.bytes s.links s.words c) (reply_of a) was is =
-      subst (λ (x : Ran). Ends c x (reply_of a) was is) (sym (p.exact fits)) ends in
+      let run : Ends c (step_run s.bytes s.links s.words c) said.reply was is =
+      subst (λ (x : Ran). Ends c x said.reply was is) (sym (p.exact fits)) ends in
       calls-step W (stepped W
       (subst Words (sym event-call) (p.allowed fits).words)
-      (subst (λ (x : Call). Ends x (step_run s.bytes s.links s.words x) (reply_of a) was is) (sym event-call) run))
+      (subst (λ (x : Call). Ends x (step_run s.bytes s.links s.words x) said.reply was is) (sym event-call) run))
 
 -- ---- a list of lines
 

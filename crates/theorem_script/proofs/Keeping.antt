@@ -2,7 +2,6 @@
 use Prim.Native.Nat.{ℕ}
 use mathlib.Core.List.{List, []}
 use Rattle.script_driver.specs.Turns.{Turns, Script}
-use Rattle.script_driver.specs.Turns as Turns
 use Rattle.script_driver.specs.Stores.{Store, stores}
 use Rattle.script_driver.specs.Contract.{Run, begun, stage_by, stage_of, held_in, Program, end, turn}
 

@@ -11,6 +11,8 @@ pub mod Taking
 pub mod Writing
 -- every script writes a text
 pub mod Existing
+-- every answer of the rules is some reply's
+pub mod Replying
 -- what a script does is a run of `call`
 pub mod Calling
 -- a program by the contracts

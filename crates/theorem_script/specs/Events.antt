@@ -6,6 +6,7 @@ use Rattle.rules.specs.Call.{Answer}
 use Rattle.rules.specs.Script.{nth, line_fits, call_of, answer_of}
 use Rattle.layout.specs.View.{view}
 use Rattle.layout.specs.WellFormed.{Sized}
+use Rattle.call_steps.specs.Request.{count_of}
 use Rattle.call_steps.specs.Request.{answer_of as reply_answer}
 use Rattle.kernel_fresh.specs.Fresh.{Fresh}
 use Rattle.script_text.specs.Numeral.{line_of}
@@ -15,7 +16,7 @@ use Rattle.theorem_history.specs.History.{Store, plain, Event, call_at, Runs, Ho
 
 -- a call's reply, with the bytes at the buffer's front, as the rules' answer
 abbrev pub answer_in : Event → Answer
-answer_in e = reply_answer e.reply (take e.reply.count e.buffer-after)
+answer_in e = reply_answer e.reply (take (count_of e.reply) e.buffer-after)
 
 -- lines of these numbers, the first of them line k, on the store s: the calls that they make, one after another, and what is
 -- written, the totals last. A bad line makes no call; no line makes one by hook.

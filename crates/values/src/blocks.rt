@@ -10,9 +10,5 @@ const BLOCK: u32 = BLOCK_SIZE as u32;
 pub fn blocks_of(size: u32) -> u32
     ensures { result ≡ blocks size }
 {
-    if size % BLOCK == 0 {
-        size / BLOCK
-    } else {
-        size / BLOCK + 1
-    }
+    size.div_ceil(BLOCK)
 }

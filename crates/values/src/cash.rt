@@ -1,7 +1,8 @@
 // Cash pays fees. Nothing here turns it into a moneyword.
+// kept: `below` and `less` are Moneyword's, too, but the two units are kept apart, and a generic over both would turn one into the other
 ghost use Rattle.std.specs.Prelude.{◌≡◌, ◌-◌, ltb};
 
-#[derive(Clone, Copy)]
+#[derive(Clone, Copy, Debug, PartialEq, Eq)]
 pub struct Cash(pub u32);
 
 impl Cash {
@@ -16,10 +17,6 @@ impl Cash {
     pub fn less(self, sum: u32) -> Cash
         ensures { result.0 ≡ self.0 - sum }
     {
-        if sum <= self.0 {
-            Cash(self.0 - sum)
-        } else {
-            Cash(0)
-        }
+        Cash(self.0.saturating_sub(sum))
     }
 }

@@ -4,11 +4,11 @@
 
 pub mod blocks;
 pub mod cash;
-pub mod code;
 pub mod fees;
 pub mod limit;
 pub mod moneyword;
 pub mod number;
 pub mod password;
+pub mod refusal;
 pub mod rights;
 pub mod window;

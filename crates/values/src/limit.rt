@@ -1,4 +1,5 @@
 // The limits by name, 01's and 02's, each number once on this side; the rules have the same (specs/Limit.antt of `rules`).
+// kept: `as` between the types of constants, where no `From` can be called
 
 // "Volumes are 0 to 3."
 pub const MAX_VOLUME: u32 = 3;

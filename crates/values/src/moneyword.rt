@@ -4,7 +4,7 @@ ghost use Rattle.rules.specs.Limit;
 
 use crate::limit::MAX_WORD;
 
-#[derive(Clone, Copy)]
+#[derive(Clone, Copy, Debug, PartialEq, Eq)]
 pub struct Moneyword(pub u32);
 
 impl Moneyword {
@@ -19,11 +19,7 @@ impl Moneyword {
     pub fn less(self, sum: u32) -> Moneyword
         ensures { result.0 ≡ self.0 - sum }
     {
-        if sum <= self.0 {
-            Moneyword(self.0 - sum)
-        } else {
-            Moneyword(0)
-        }
+        Moneyword(self.0.saturating_sub(sum))
     }
 
     // With the sum it would pass 4,294,967,295.
@@ -37,10 +33,6 @@ impl Moneyword {
     pub fn at_most(self, limit: u32) -> Moneyword
         ensures { result.0 ≡ min limit self.0 }
     {
-        if limit < self.0 {
-            Moneyword(limit)
-        } else {
-            self
-        }
+        Moneyword(self.0.min(limit))
     }
 }

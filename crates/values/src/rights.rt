@@ -2,7 +2,9 @@
 ghost use Rattle.std.specs.Prelude.{◌≡◌};
 ghost use Rattle.rules.specs.Rights.{is_right, has, both, asked, op};
 
-#[derive(Clone, Copy)]
+use crate::number::by_call;
+
+#[derive(Clone, Copy, Debug, PartialEq, Eq)]
 pub struct Rights(pub u16);
 
 impl Rights {
@@ -38,14 +40,7 @@ impl Rights {
     pub fn is_right(number: u32) -> bool
         ensures { result ≡ is_right number }
     {
-        let mut i: usize = 0;
-        while i < 13 {
-            if THIRTEEN[i] == number {
-                return true;
-            }
-            i += 1;
-        }
-        false
+        THIRTEEN.contains(&number)
     }
 
     // These rights hold the right.
@@ -66,14 +61,7 @@ impl Rights {
     pub fn asked(number: u32) -> Rights
         ensures { result.0 ≡ asked (op number) }
     {
-        if number == 0 {
-            return Rights::NONE;
-        }
-        if number > 16 {
-            return Rights::NONE;
-        }
-        let at = (number - 1) as usize;
-        Rights(ASKED[at])
+        by_call(&ASKED, number, Rights::NONE)
     }
 }
 
@@ -94,21 +82,21 @@ const THIRTEEN: [u32; 13] = [
 ];
 
 // In call order, as the fees.
-const ASKED: [u16; 16] = [
-    Rights::NONE.0,
-    Rights::READ.0,
-    Rights::WRITE.0,
-    Rights::CAP_INFO.0,
-    Rights::DERIVE_CAP.0,
-    Rights::DELETE_CAP.0,
-    Rights::RENAME_OBJ.0,
-    Rights::WITHDRAW.0,
-    Rights::DEPOSIT.0,
-    Rights::SUSPEND.0,
-    Rights::RESUME.0,
-    Rights::APPLY_LOCK.0,
-    Rights::SEND.0,
-    Rights::NONE.0,
-    Rights::NONE.0,
-    Rights::REVIVE.0,
+const ASKED: [Rights; 16] = [
+    Rights::NONE,
+    Rights::READ,
+    Rights::WRITE,
+    Rights::CAP_INFO,
+    Rights::DERIVE_CAP,
+    Rights::DELETE_CAP,
+    Rights::RENAME_OBJ,
+    Rights::WITHDRAW,
+    Rights::DEPOSIT,
+    Rights::SUSPEND,
+    Rights::RESUME,
+    Rights::APPLY_LOCK,
+    Rights::SEND,
+    Rights::NONE,
+    Rights::NONE,
+    Rights::REVIVE,
 ];

@@ -3,7 +3,7 @@ ghost use Rattle.std.specs.Prelude.{◌≡◌};
 ghost use Rattle.rules.specs.Calls.{lies_in, nearest, moved};
 ghost use Rattle.values.specs.Words.{window_of};
 
-#[derive(Clone, Copy)]
+#[derive(Clone, Copy, Debug, PartialEq, Eq)]
 pub struct Window {
     pub start: u32,
     pub end: u32,
@@ -14,11 +14,7 @@ impl Window {
     pub fn holds(self, range: Window) -> bool
         ensures { result ≡ lies_in (window_of range) (window_of self) }
     {
-        if self.start <= range.start {
-            range.end <= self.end
-        } else {
-            false
-        }
+        self.start <= range.start && range.end <= self.end
     }
 
     // The point of this window nearest to x.

@@ -1,8 +1,7 @@
 -- `set_day` tests 2 and 20, then stores.
 use mathlib.Core.Path.{refl}
-use native.Mathlib.Omega.{arith}
-use borrow.Author.Rules.{rules}
-use Rattle.call_steps.proofs.Replying.{replies-stopped, replies-done, done-is}
+use Rattle.values.specs.declared.refusal.Refusal.TheVariants.{OutOfRange, EarlierDay}
+use Rattle.call_steps.proofs.Replying.{replies-refused, replies-done, done-is}
 use Rattle.call_day.specs.Runs.{day_run}
 use Rattle.call_day.proofs.Stops.{day-high, day-before, day-goes}
 use Rattle.call_day.proofs.set_day.Goals as goal
@@ -10,14 +9,12 @@ use Rattle.call_day.proofs.set_day.Goals as goal
 pub returns-then-day-gt-MAX_DAY : goal.returns-then-day-gt-MAX_DAY
 unfolding day_run
 returns-then-day-gt-MAX_DAY c b w =
-    replies-stopped _ _ (day-high b c.args.links.now w c.args.day c.if-day-gt-MAX_DAY.true) (λ z. omega arith)
-    c.refused.ensures
+    replies-refused _ OutOfRange (day-high b c.args.links.now w c.args.day c.if-day-gt-MAX_DAY.true)
 
 pub returns-then-new-links : goal.returns-then-new-links
 unfolding day_run
 returns-then-new-links c b w =
-    replies-stopped _ _ (day-before b c.args.links.now w c.args.day c.if-day-gt-MAX_DAY.false c.if-new-links.true)
-    (λ z. omega arith) c.refused-then-new-links.ensures
+    replies-refused _ EarlierDay (day-before b c.args.links.now w c.args.day c.if-day-gt-MAX_DAY.false c.if-new-links.true)
 
 pub returns : goal.returns
 unfolding day_run

@@ -1,12 +1,11 @@
 -- deposit meets its contract: past its two tests the climb changes, then the caller's cash.
-use Prim.Native.Nat.{◌-◌}
 use mathlib.Core.Path.{◌≡◌, sym, ◌∙◌}
 use mathlib.Core.Bool.{false}
 use native.Mathlib.Omega.{arith}
 use lib.Dec.{ltb}
-use borrow.Author.Rules.{rules}
 use Rattle.layout.specs.Rows.{cash_of}
-use Rattle.call_steps.proofs.Replying.{refused-is, done-is}
+use Rattle.values.specs.declared.refusal.Refusal.TheVariants.{TooLittle, Overflows}
+use Rattle.call_steps.proofs.Replying.{refuses, refused-is, done-is}
 use Rattle.call_purse.specs.declared.way.Way.TheVariants.{Into}
 use Rattle.call_purse.specs.Climb.{climb_stops}
 use Rattle.call_purse.specs.Calls.{deposited, deposit_run}
@@ -33,7 +32,7 @@ pub returns-then-below : goal.returns-then-below
 unfolding deposit_run
 returns-then-below c b =
     let at = c.args in
-    refused-is c.refused.ensures
+    refused-is (refuses TooLittle)
     (refused at.links.now at.words.now (deposited at.links.now at.words.now at.me at.k at.sum) 9
     (deposit-short at.links.now at.words.now at.me at.k at.sum
     (sym (tested (goal.at.returns-then-below c).After-below) ∙ c.if-below.true)) (omega arith) b)
@@ -42,13 +41,10 @@ pub returns-then-climb_stops : goal.returns-then-climb_stops
 unfolding deposit_run
 returns-then-climb_stops c b =
     let at = c.args in
-    refused-is c.refused-then-climb_stops.ensures
+    refused-is (refuses Overflows)
     (refused at.links.now at.words.now (deposited at.links.now at.words.now at.me at.k at.sum) 10
     (deposit-full at.links.now at.words.now at.me at.k at.sum
     (enough (goal.at.returns-then-climb_stops c).Else-below) (sym (climbed (goal.at.returns-then-climb_stops c).After-climb_stops) ∙ c.if-climb_stops.true)) (omega arith) b)
-
-pub climb_moves-requires : goal.climb_moves-requires
-climb_moves-requires c = (c.requires.climb, free (goal.at.climb_moves-requires c).Else-climb_stops)
 
 pub returns : goal.returns
 unfolding deposit_run deposited

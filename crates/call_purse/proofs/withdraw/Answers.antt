@@ -2,8 +2,8 @@
 use mathlib.Core.Path.{◌≡◌, sym, ◌∙◌}
 use mathlib.Core.Bool.{false}
 use native.Mathlib.Omega.{arith}
-use borrow.Author.Rules.{rules}
-use Rattle.call_steps.proofs.Replying.{refused-is, done-is}
+use Rattle.values.specs.declared.refusal.Refusal.TheVariants.{TooLittle}
+use Rattle.call_steps.proofs.Replying.{refuses, refused-is, done-is}
 use Rattle.call_purse.specs.declared.way.Way.TheVariants.{Out}
 use Rattle.call_purse.specs.Climb.{climb_stops}
 use Rattle.call_purse.specs.Calls.{withdrawn, withdraw_run}
@@ -23,17 +23,10 @@ pub returns-then-climb_stops : goal.returns-then-climb_stops
 unfolding withdraw_run
 returns-then-climb_stops c b =
     let at = c.args in
-    refused-is c.refused.ensures
+    refused-is (refuses TooLittle)
     (refused at.links.now at.words.now (withdrawn at.links.now at.words.now at.me at.k at.sum) 9
     (withdraw-short at.links.now at.words.now at.k at.sum (sym (tested (goal.at.returns-then-climb_stops c).After-climb_stops) ∙ c.if-climb_stops.true))
     (omega arith) b)
-
-pub climb_moves-requires : goal.climb_moves-requires
-climb_moves-requires c = (c.requires.payable.climb, free (goal.at.climb_moves-requires c).Else-climb_stops)
-
-pub overflow_add-words : goal.overflow_add-words
-overflow_add-words c =
-    record { fits = omega (arith, c.cash_of-cash.ensures, c.requires.room (free (goal.at.overflow_add-words c).Else-climb_stops)) }
 
 pub returns : goal.returns
 unfolding withdraw_run withdrawn

@@ -1,62 +1,42 @@
 -- `rename_obj` is stopped by 11 or 12, or renews the master.
 use mathlib.Core.Path.{◌≡◌, sym, ◌∙◌}
 use native.Mathlib.Omega.{arith}
-use borrow.Author.Rules.{rules}
 use Rattle.layout.specs.Layout as Layout
-use Rattle.layout.specs.Rows.{owner_of, parent_of}
-use Rattle.call_rename.proofs.Stops.{slot_of, cell, not-master, p1-taken, renews}
+use Rattle.layout.specs.Rows.{owner_of}
+use Rattle.call_rename.proofs.Stops.{cell, not-master, p1-taken, renews}
+use Rattle.values.specs.declared.refusal.Refusal.TheVariants.{Taken, NotMaster}
+use Rattle.call_steps.proofs.Replying.{refuses}
 use Rattle.call_rename.proofs.rename_obj.Goals as goal
-use Rattle.call_rename.proofs.rename_obj.Goals.{After-slot-o, After-slot-parent}
+use Rattle.call_rename.proofs.rename_obj.Goals.{After-from-o}
 
-parent_is : (c : After-slot-parent) → parent_of c.args.links.now c.args.k ≡ c.slot-parent.result
-parent_is c = cell c.requires.living Layout.PARENT ∙ sym c.slot-parent.ensures
+owner-is : (c : After-from-o) → c.from-o.result ≡ owner_of c.args.links.now c.args.k
+owner-is c = c.from-o.ensures ∙ sym (cell c.requires.living Layout.OWNER)
 
-owner-is : (c : After-slot-o) → c.slot-o.result ≡ owner_of c.args.links.now c.args.k
-owner-is c = c.slot-o.ensures ∙ sym (cell c.requires.living Layout.OWNER)
-
-pub overflow_add-k : goal.overflow_add-k
-overflow_add-k c = record { fits = omega (arith, (slot_of c.requires.living).high) }
-
-pub offset_bounds-links-k : goal.offset_bounds-links-k
-offset_bounds-links-k c = record { fits = omega (arith, (slot_of c.requires.living).high) }
-
-pub bounds-links-k : goal.bounds-links-k
-bounds-links-k c = omega (arith, (slot_of c.requires.living).high, c.requires.sized.links)
-
-pub returns-then-parent-ne0 : goal.returns-then-parent-ne0
-returns-then-parent-ne0 c =
-    not-master (λ z. c.if-parent-ne0.true (sym (parent_is (goal.at.returns-then-parent-ne0 c).After-slot-parent) ∙ z)) c.refused.ensures
-
-pub overflow_add-k-2 : goal.overflow_add-k-2
-overflow_add-k-2 c = record { fits = omega (arith, (slot_of c.requires.living).high) }
-
-pub offset_bounds-links-k-2 : goal.offset_bounds-links-k-2
-offset_bounds-links-k-2 c = record { fits = omega (arith, (slot_of c.requires.living).high) }
-
-pub bounds-links-k-2 : goal.bounds-links-k-2
-bounds-links-k-2 c = omega (arith, (slot_of c.requires.living).high, c.requires.sized.links)
+pub returns-then-links-k-ne0 : goal.returns-then-links-k-ne0
+returns-then-links-k-ne0 c =
+    not-master (λ z. c.if-links-k-ne0.true (sym (cell c.requires.living Layout.PARENT) ∙ z)) (refuses NotMaster)
 
 pub p1_taken-requires : goal.p1_taken-requires
 p1_taken-requires c =
     record {
       fact_1 = record { links = c.requires.sized.links; words = c.requires.sized.words };
-      fact_2 = omega (arith, owner-is (goal.at.p1_taken-requires c).After-slot-o, c.requires.object.low);
+      fact_2 = omega (arith, owner-is (goal.at.p1_taken-requires c).After-from-o, c.requires.object.low);
     }
 
 pub returns-then-p1_taken : goal.returns-then-p1_taken
 returns-then-p1_taken c =
-    p1-taken (parent_is (goal.at.returns-then-p1_taken c).After-slot-parent ∙ c.if-parent-ne0.false) (owner-is (goal.at.returns-then-p1_taken c).After-slot-o) (c.p1_taken.ensures _)
-    c.if-p1_taken.true c.refused-then-p1_taken.ensures
+    p1-taken (cell c.requires.living Layout.PARENT ∙ c.if-links-k-ne0.false) (owner-is (goal.at.returns-then-p1_taken c).After-from-o) (c.p1_taken.ensures _)
+    c.if-p1_taken.true (refuses Taken)
 
 pub name_at-name-requires : goal.name_at-name-requires
 name_at-name-requires c =
     record {
       fact_1 = record { bytes = c.requires.sized.bytes; links = c.requires.sized.links };
-      fact_2 = rw (owner-is (goal.at.name_at-name-requires c).After-slot-o) c.requires.object;
-      fact_3 = rw (owner-is (goal.at.name_at-name-requires c).After-slot-o) c.requires.live;
+      fact_2 = rw (owner-is (goal.at.name_at-name-requires c).After-from-o) c.requires.object;
+      fact_3 = rw (owner-is (goal.at.name_at-name-requires c).After-from-o) c.requires.live;
     }
 
 pub returns : goal.returns
 returns c =
-    renews (parent_is (goal.at.returns c).After-slot-parent ∙ c.if-parent-ne0.false) (owner-is (goal.at.returns c).After-slot-o) (c.p1_taken.ensures _)
+    renews (cell c.requires.living Layout.PARENT ∙ c.if-links-k-ne0.false) (owner-is (goal.at.returns c).After-from-o) (c.p1_taken.ensures _)
     c.if-p1_taken.false (c.name_at-name.ensures _) c.hands_back.ensures c.renew.ensures

@@ -2,28 +2,12 @@
 use mathlib.Core.Path.{refl}
 use native.Mathlib.Omega.{arith}
 use lib.ListN.{length-set}
-use borrow.Author.Rules.{rules}
 use Rattle.call_rename.specs.Runs.{renamed_words}
-use Rattle.call_rename.proofs.Stops.{slot_of}
+use Rattle.call_rename.proofs.Stops.{cap_high}
 use Rattle.call_rename.proofs.renew.Goals as goal
 
-pub overflow_add-words : goal.overflow_add-words
-overflow_add-words c = record { fits = omega (arith, (slot_of c.requires.living).high) }
-
-pub offset_bounds-words-k : goal.offset_bounds-words-k
-offset_bounds-words-k c = record { fits = omega (arith, (slot_of c.requires.living).high) }
-
-pub bounds-words-k : goal.bounds-words-k
-bounds-words-k c = omega (arith, (slot_of c.requires.living).high, c.requires.words)
-
-pub overflow_add-words-2 : goal.overflow_add-words-2
-overflow_add-words-2 c = record { fits = omega (arith, (slot_of c.requires.living).high) }
-
-pub offset_bounds-words-k-2 : goal.offset_bounds-words-k-2
-offset_bounds-words-k-2 c = record { fits = omega (arith, (slot_of c.requires.living).high) }
-
 pub bounds-words-k-2 : goal.bounds-words-k-2
-bounds-words-k-2 c = simp length-set (omega (arith, (slot_of c.requires.living).high, c.requires.words))
+bounds-words-k-2 c = simp length-set (omega (arith, cap_high c.requires.living, c.requires.words))
 
 pub returns : goal.returns
 unfolding renamed_words

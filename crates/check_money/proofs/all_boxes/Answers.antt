@@ -10,12 +10,6 @@ loop-o-init c = added_none _ _ _
 pub overflow_add-total : goal.overflow_add-total
 overflow_add-total c = omega arith
 
-pub overflow_sub-o : goal.overflow_sub-o
-overflow_sub-o c = omega arith
-
-pub loop-o-smaller : goal.loop-o-smaller
-loop-o-smaller c = omega arith
-
 pub loop-o-preserved : goal.loop-o-preserved
 loop-o-preserved c =
     let p = c.loop-o.invariant in
@@ -23,4 +17,4 @@ loop-o-preserved c =
 
 pub returns : goal.returns
 unfolding all_boxes
-returns c = added-all _ _ _ _ _ c.loop-o-test.false c.loop-o.invariant
+returns c = added-all _ _ _ _ _ (omega arith) c.loop-o.invariant

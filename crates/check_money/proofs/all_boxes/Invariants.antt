@@ -12,6 +12,3 @@ HeldAbove b l w = Added (λ o. sums_in ((view b l w).box o)) (4294967295 * 255) 
 
 abbrev pub invariant-loop-o : goal.invariant-loop-o
 invariant-loop-o l = HeldAbove l.bytes l.links l.words l.o l.total
-
-abbrev pub decreases-loop-o : goal.decreases-loop-o
-decreases-loop-o l = l.o

@@ -10,17 +10,11 @@ loop-o-init c = added_none _ _ _
 pub overflow_add-total : goal.overflow_add-total
 overflow_add-total c = omega arith
 
-pub overflow_sub-o : goal.overflow_sub-o
-overflow_sub-o c = omega arith
-
-pub loop-o-smaller : goal.loop-o-smaller
-loop-o-smaller c = omega arith
-
 pub loop-o-preserved : goal.loop-o-preserved
 loop-o-preserved c =
     let p = c.loop-o.invariant in
-    added_more _ _ _ _ _ _ (omega arith) c.cash_at.ensures (omega arith) p
+    added_more _ _ _ _ _ _ (omega arith) (omega (arith, c.from-total.ensures, c.cash_at.ensures)) (omega arith) p
 
 pub returns : goal.returns
 unfolding all_cash
-returns c = added-all _ _ _ _ _ c.loop-o-test.false c.loop-o.invariant
+returns c = added-all _ _ _ _ _ (omega arith) c.loop-o.invariant

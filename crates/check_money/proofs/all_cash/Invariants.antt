@@ -5,6 +5,3 @@ use Rattle.check_money.proofs.all_cash.Given as goal
 
 abbrev pub invariant-loop-o : goal.invariant-loop-o
 invariant-loop-o l = Added (view l.bytes l.links l.words).cash 4294967295 64 l.o l.total
-
-abbrev pub decreases-loop-o : goal.decreases-loop-o
-decreases-loop-o l = l.o

@@ -8,7 +8,7 @@ pub returns-then-is_process : goal.returns-then-is_process
 returns-then-is_process c =
     let p = sym c.is_process.ensures ∙ c.if-is_process.true in
     let s = c.sums_from.ensures in
-    record { is = s.is ∙ sums-here _ _ _ _ _ c.byte.ensures p; small = s.small }
+    record { is = s.is ∙ sums-here _ _ _ _ _ (c.from-count.ensures ∙ c.field.ensures) p; small = s.small }
 
 pub returns : goal.returns
 returns c =

@@ -6,7 +6,7 @@ use Rattle.check_money.proofs.cash_at.Goals as goal
 pub returns-then-is_process : goal.returns-then-is_process
 returns-then-is_process c =
     let p = sym c.is_process.ensures ∙ c.if-is_process.true in
-    c.word.ensures ∙ sym (cash-here _ _ _ _ p)
+    c.field.ensures ∙ sym (cash-here _ _ _ _ p)
 
 pub returns : goal.returns
 returns c =

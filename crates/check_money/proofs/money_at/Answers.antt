@@ -4,11 +4,11 @@ use mathlib.Core.Path.{sym, ◌∙◌}
 use Rattle.check_money.proofs.Living.{money-free, money-child, money-master}
 use Rattle.check_money.proofs.money_at.Goals as goal
 
-pub returns-then-link-eq0 : goal.returns-then-link-eq0
-returns-then-link-eq0 c b = sym (money-free b _ _ _ (omega arith))
+pub returns-then-field-eq0 : goal.returns-then-field-eq0
+returns-then-field-eq0 c b = sym (money-free b _ _ _ (omega arith))
 
-pub returns-then-link-ne0 : goal.returns-then-link-ne0
-returns-then-link-ne0 c b = sym (money-child b _ _ _ (λ z. omega arith) (λ z. omega arith))
+pub returns-then-field-ne0 : goal.returns-then-field-ne0
+returns-then-field-ne0 c b = sym (money-child b _ _ _ (λ z. omega arith) (λ z. omega arith))
 
 pub returns : goal.returns
-returns c b = c.word.ensures ∙ sym (money-master b _ _ _ (λ z. omega arith) (omega arith))
+returns c b = c.field-3.ensures ∙ sym (money-master b _ _ _ (λ z. omega arith) (omega arith))

@@ -10,20 +10,20 @@ use Rattle.layout.proofs.Deciding.{yes-it, no-it, refuted, granted}
 use Rattle.check_objects.proofs.all_fit.Goals as goal
 
 pub loop-o-init : goal.loop-o-init
-loop-o-init c = (c.requires.fact_2, none-past (by_name _ _), omega arith, used-past 64 Layout.MASTER _ _)
+loop-o-init c = (c.requires.table, none-past (by_name _ _), omega arith, used-past 64 Layout.MASTER _ _)
 
 pub object_fits-requires : goal.object_fits-requires
 object_fits-requires c =
     record {
-      fact_1 = search rules;
-      fact_2 = c.loop-o.invariant.2;
+      sizes = search rules;
+      slot = c.loop-o.invariant.2;
     }
 
 pub shape_of-heads-then-not-object_fits : goal.shape_of-heads-then-not-object_fits
-shape_of-heads-then-not-object_fits c = c.loop-o.invariant.0.size ∙ sym c.requires.fact_2.size
+shape_of-heads-then-not-object_fits c = c.loop-o.invariant.0.size ∙ sym c.requires.table.size
 
 pub shape_of-next-then-not-object_fits : goal.shape_of-next-then-not-object_fits
-shape_of-next-then-not-object_fits c = c.loop-o.invariant.0.links.size ∙ sym c.requires.fact_2.links.size
+shape_of-next-then-not-object_fits c = c.loop-o.invariant.0.links.size ∙ sym c.requires.table.links.size
 
 pub returns-then-not-object_fits : goal.returns-then-not-object_fits
 returns-then-not-object_fits c = no-it (λ h. refuted c.object_fits.ensures c.if-not-object_fits.true (h.fit _))
@@ -31,26 +31,20 @@ returns-then-not-object_fits c = no-it (λ h. refuted c.object_fits.ensures c.if
 pub enter-requires : goal.enter-requires
 enter-requires c =
     let now = c.loop-o.invariant in record {
-      fact_1 = search rules;
-      fact_2 = now.0;
-      fact_3 = (c.loop-o-test.true, now.2);
+      sizes = search rules;
+      table = now.0;
+      slot = (c.loop-o-test.true, now.2);
     }
 
 pub shape_of-heads-then-not-enter : goal.shape_of-heads-then-not-enter
-shape_of-heads-then-not-enter c = c.enter.ensures.table.size ∙ sym c.requires.fact_2.size
+shape_of-heads-then-not-enter c = c.enter.ensures.table.size ∙ sym c.requires.table.size
 
 pub shape_of-next-then-not-enter : goal.shape_of-next-then-not-enter
-shape_of-next-then-not-enter c = c.enter.ensures.table.links.size ∙ sym c.requires.fact_2.links.size
+shape_of-next-then-not-enter c = c.enter.ensures.table.links.size ∙ sym c.requires.table.links.size
 
 pub returns-then-not-enter : goal.returns-then-not-enter
 returns-then-not-enter c =
     no-it (λ h. refuted c.enter.ensures.answer c.if-not-enter.true (none-same (names-differ _ _ h.names) _))
-
-pub overflow_sub-o : goal.overflow_sub-o
-overflow_sub-o c = omega arith
-
-pub loop-o-smaller : goal.loop-o-smaller
-loop-o-smaller c = omega arith
 
 pub loop-o-preserved : goal.loop-o-preserved
 loop-o-preserved c =
@@ -62,15 +56,15 @@ loop-o-preserved c =
     )
 
 pub shape_of-heads : goal.shape_of-heads
-shape_of-heads c = c.loop-o.invariant.0.size ∙ sym c.requires.fact_2.size
+shape_of-heads c = c.loop-o.invariant.0.size ∙ sym c.requires.table.size
 
 pub shape_of-next : goal.shape_of-next
-shape_of-next c = c.loop-o.invariant.0.links.size ∙ sym c.requires.fact_2.links.size
+shape_of-next c = c.loop-o.invariant.0.links.size ∙ sym c.requires.table.links.size
 
 pub returns : goal.returns
 returns c =
     let now = c.loop-o.invariant in
     yes-it (record {
-      fit = all-used 64 Layout.MASTER _ _ _ c.loop-o-test.false now.3;
-      names = names-unique _ _ (all-differ (by_name _ _) _ c.loop-o-test.false now.1);
+      fit = all-used 64 Layout.MASTER _ _ _ (omega arith) now.3;
+      names = names-unique _ _ (all-differ (by_name _ _) _ (omega arith) now.1);
     })

@@ -13,6 +13,3 @@ invariant-loop-o l =
     × Above (NoneAbove (SameName l.bytes l.links)) l.o
     × (l.o ≤ 64)
     × Above (ObjectMeets l.bytes l.links l.words) l.o
-
-abbrev pub decreases-loop-o : goal.decreases-loop-o
-decreases-loop-o l = l.o

@@ -9,6 +9,6 @@ use Rattle.check_objects.proofs.objects_fit.Goals as goal
 pub all_fit-requires : goal.all_fit-requires
 all_fit-requires c =
     record {
-      fact_1 = search rules;
-      fact_2 = no_slot (name_keys _ _) 64 (used-past 64 Layout.MASTER _ (λ _. ⊥));
+      sizes = search rules;
+      table = no_slot (name_keys _ _) 64 (used-past 64 Layout.MASTER _ (λ _. ⊥));
     }

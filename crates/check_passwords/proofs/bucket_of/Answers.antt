@@ -6,4 +6,4 @@ use Rattle.check_passwords.proofs.bucket_of.Goals as goal
 
 pub returns : goal.returns
 unfolding bucket
-returns c = (refl, omega arith)
+returns c = (rw c.from.ensures refl, omega arith)

@@ -1,17 +1,14 @@
 -- `same_password` tests each part of SamePassword.
 use native.Mathlib.Omega.{arith}
-use Rattle.layout.proofs.Deciding.{no-it, as-well, equal}
+use Rattle.layout.proofs.Deciding.{no-it, as-well, equal, differs}
 use Rattle.check_passwords.proofs.same_password.Goals as goal
 
-pub returns-then-word : goal.returns-then-word
-returns-then-word c = no-it (λ h. omega (arith, c.if-word.true, h.p1))
+pub returns-then-field : goal.returns-then-field
+returns-then-field c = no-it (λ h. omega (arith, c.if-field.true, h.p1))
 
-pub returns-then-owner-eq0 : goal.returns-then-owner-eq0
-returns-then-owner-eq0 c = no-it (λ h. h.here (omega arith))
-
-pub returns : goal.returns
-returns c =
-    as-well (equal c.link-owner.result c.link.result)
+pub returns-then-owner-ne0 : goal.returns-then-owner-ne0
+returns-then-owner-ne0 c =
+    as-well (equal c.field-owner.result c.field-then-owner-ne0.result)
     (λ e. record {
       here = λ z. omega arith;
       there = λ z. omega arith;
@@ -19,3 +16,9 @@ returns c =
       p1 = omega arith;
     })
     (λ h. omega (arith, h.owner))
+
+pub returns-else-owner-ne0 : goal.returns-else-owner-ne0
+returns-else-owner-ne0 c =
+    as-well (differs c.field-owner.result 0)
+    (λ e. absurd (e (omega arith)))
+    (λ h z. h.here (omega arith))

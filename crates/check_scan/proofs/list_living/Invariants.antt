@@ -4,6 +4,3 @@ use Rattle.check_scan.proofs.list_living.Given as goal
 
 abbrev pub invariant-loop-i : goal.invariant-loop-i
 invariant-loop-i l = Slots l.links l.list 0 l.n l.i 512
-
-abbrev pub decreases-loop-i : goal.decreases-loop-i
-decreases-loop-i l = l.i

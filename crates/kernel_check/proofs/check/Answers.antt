@@ -1,6 +1,5 @@
 -- `check` asks for the lengths, the shape of the links and the fields; by the laws of the layout these are all there is.
-use native.Mathlib.Omega.{arith}
-use borrow.Author.Rules.{rules}
+use Rattle.std.proofs.Common.{arith, rules}
 use Rattle.layout.proofs.Formed.{formed}
 use Rattle.layout.proofs.Plain.{plain}
 use Rattle.layout.proofs.Asked.{fields}
@@ -8,13 +7,7 @@ use Rattle.layout.proofs.Deciding.{no-it, as-well, refuted}
 use Rattle.kernel_check.proofs.check.Goals as goal
 
 pub returns-then-bytes-ne-BYTES : goal.returns-then-bytes-ne-BYTES
-returns-then-bytes-ne-BYTES c = no-it (λ f. c.if-bytes-ne-BYTES.true f.sized.bytes)
-
-pub returns-then-links-ne-LINKS : goal.returns-then-links-ne-LINKS
-returns-then-links-ne-LINKS c = no-it (λ f. c.if-links-ne-LINKS.true f.sized.links)
-
-pub returns-then-words-ne-WORDS : goal.returns-then-words-ne-WORDS
-returns-then-words-ne-WORDS c = no-it (λ f. c.if-words-ne-WORDS.true f.sized.words)
+returns-then-bytes-ne-BYTES c = no-it (λ f. omega (arith, c.then-bytes-ne-BYTES.either, f.sized.bytes, f.sized.links, f.sized.words))
 
 pub returns-then-check_shape : goal.returns-then-check_shape
 returns-then-check_shape c =
@@ -26,5 +19,6 @@ returns-then-check_shape c =
     }) (search rules) (c.check_shape.ensures.sound c.if-check_shape.true))
     (λ f. fields (plain f))
 
-pub returns : goal.returns
-returns c = no-it (λ f. refuted c.check_shape.ensures c.if-check_shape.false f.shape)
+pub returns-else-check_shape : goal.returns-else-check_shape
+returns-else-check_shape c =
+    rw c.if-check_shape.false (no-it (λ f. refuted c.check_shape.ensures c.if-check_shape.false f.shape))

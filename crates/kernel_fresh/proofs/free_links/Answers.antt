@@ -1,6 +1,5 @@
--- `fresh::free_links` meets its contract.
+-- `free_links` meets its contract.
 use Rattle.kernel_fresh.specs.Slices.{free_links}
-use borrow.Author.Rules.{rules}
 use Rattle.kernel_fresh.proofs.free_links.Goals as goal
 
 pub returns : goal.returns

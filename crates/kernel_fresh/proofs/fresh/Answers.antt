@@ -1,4 +1,4 @@
--- `fresh::fresh` meets its contract.
+-- `fresh` meets its contract.
 use mathlib.Core.Path.{refl}
 use native.Mathlib.Omega.{arith}
 use borrow.Author.Rules.{rules}
@@ -7,9 +7,10 @@ use mir.Syntax.{w32}
 use lib.ListN.{get_or}
 use Rattle.rules.specs.Demand.{FreshWords}
 use Rattle.values.specs.Words.{password_of}
+use Rattle.layout.specs.WellFormed.{Sized}
 use Rattle.kernel_fresh.proofs.Answers.{refuse, make}
 use Rattle.kernel_fresh.proofs.fresh.Goals as goal
-use Rattle.kernel_fresh.proofs.fresh.Goals.{Start}
+use Rattle.kernel_fresh.proofs.fresh.Goals.{Start, then-bytes-ne-BYTES-via-then-bytes-ne-BYTES, then-bytes-ne-BYTES-via-else-bytes-ne-BYTES+then-links-ne-LINKS, then-bytes-ne-BYTES-via-else-bytes-ne-BYTES+else-links-ne-LINKS+then-words-ne-WORDS}
 
 -- the arguments are 32-bit numbers
 fit : (c : Start) → FreshWords c.args.supply (password_of c.args.password)
@@ -18,13 +19,13 @@ fit c = let h1 : Fits w32 (get_or c.args.password 0 0) = search rules in
     record { amount = omega arith; p1 = omega arith; p2 = omega arith }
 
 pub returns-then-bytes-ne-BYTES : goal.returns-then-bytes-ne-BYTES
-returns-then-bytes-ne-BYTES c = refuse (fit (goal.at.returns-then-bytes-ne-BYTES c).Start) (λ s. omega arith)
-
-pub returns-then-links-ne-LINKS : goal.returns-then-links-ne-LINKS
-returns-then-links-ne-LINKS c = refuse (fit (goal.at.returns-then-links-ne-LINKS c).Start) (λ s. omega arith)
-
-pub returns-then-words-ne-WORDS : goal.returns-then-words-ne-WORDS
-returns-then-words-ne-WORDS c = refuse (fit (goal.at.returns-then-words-ne-WORDS c).Start) (λ s. omega arith)
+returns-then-bytes-ne-BYTES c =
+    let other : Sized c.args.bytes.now c.args.links.now c.args.words.now → ⊥ = elim c.then-bytes-ne-BYTES.branch [
+      | then-bytes-ne-BYTES-via-then-bytes-ne-BYTES w ↦ λ s. omega arith
+      | then-bytes-ne-BYTES-via-else-bytes-ne-BYTES+then-links-ne-LINKS w ↦ λ s. omega arith
+      | then-bytes-ne-BYTES-via-else-bytes-ne-BYTES+else-links-ne-LINKS+then-words-ne-WORDS w ↦ λ s. omega arith
+    ] in
+    refuse (fit (goal.at.returns-then-bytes-ne-BYTES c).Start) other
 
 pub returns : goal.returns
 returns c =

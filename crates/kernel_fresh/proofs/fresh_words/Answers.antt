@@ -1,16 +1,8 @@
--- `fresh::fresh_words` meets its contract.
+-- `fresh_words` meets its contract.
+use Rattle.kernel_fresh.specs.Stores.{zeros}
 use Rattle.kernel_fresh.specs.Slices.{fresh_words}
-use lib.ListN.{length-set}
-use native.Mathlib.Omega.{arith}
-use borrow.Author.Rules.{rules}
 use Rattle.kernel_fresh.proofs.fresh_words.Goals as goal
 
-pub bounds-words-2 : goal.bounds-words-2
-bounds-words-2 c = simp length-set (omega arith)
-
-pub bounds-words-3 : goal.bounds-words-3
-bounds-words-3 c = simp length-set (omega arith)
-
 pub returns : goal.returns
-unfolding fresh_words
-returns c = rw (c.zero_words.ensures, c.requires)
+unfolding fresh_words zeros
+returns c = rw (c.fill.ensures.after (λ y same. same), c.requires)

@@ -1,20 +1,20 @@
 -- `step` sets the day, or is entered, then refused, or goes on to the call's own part.
 use Prim.Native.Nat.{ℕ}
-use mathlib.Core.Path.{◌≡◌, refl, sym, ◌∙◌}
+use mathlib.Core.Path.{refl, sym, ap, ◌∙◌, subst}
 use mathlib.Core.Logic.{◌≢◌}
 use native.Mathlib.Omega.{arith}
 use mir.Val.{Fits}
 use mir.Syntax.{w32}
 use lib.ListN.{get_or}
-use borrow.Author.Rules.{rules, elem_fits_field}
+use borrow.Author.Rules.{rules}
 use Rattle.rules.specs.Rights.{day_number}
-use Rattle.rules.specs.Call.{Call}
 use Rattle.rules.specs.Demand.{Words}
 use Rattle.layout.proofs.Plain.{plain}
-use Rattle.call_steps.specs.declared.request.Reply.{Reply}
-use Rattle.call_steps.specs.Request.{call_of}
-use Rattle.call_enter.specs.Entry.{entry}
-use Rattle.call_enter.specs.Enters.{entry_of}
+use Rattle.call_steps.specs.Request.{Reply, call_of}
+use Rattle.std.specs.Prelude.{Err}
+use Rattle.std.proofs.lemmas.Result.{err_from_is_err_and}
+use Rattle.values.proofs.Numbers.{number-some}
+use Rattle.call_steps.proofs.Replying.{refuses}
 use Rattle.call_enter.proofs.Beginning.{enter-begins}
 use Rattle.call_enter.proofs.Stepping.{step-stops, step-begins}
 use Rattle.kernel_step.specs.Slices.{Slices, slices, call_on}
@@ -26,7 +26,7 @@ use Rattle.kernel_step.proofs.Promising.{stepped}
 use Rattle.kernel_step.proofs.Replying.{ends-refused, ends-replies, day-keeps, ends_same, ends_of}
 use Rattle.kernel_step.proofs.Choosing.{step-host, step-process}
 use Rattle.kernel_step.proofs.step.Goals as goal
-use Rattle.kernel_step.proofs.step.Goals.{After-enter-e, Start}
+use Rattle.kernel_step.proofs.step.Goals.{After-enter, Start}
 
 -- the request's numbers are 32-bit: what its type says of its fields
 given-fits : (c : Start) (i : ℕ) → Fits w32 (get_or c.args.req.presented.password i 0)
@@ -58,11 +58,8 @@ promised : (c : Start) {r : Reply} {is : Slices}
     StepEnds c.args.req c.args.text.now r was is → Stepped c.args.req c.args.text.now r was is)
 promised c E = stepped c.requires (words c) E
 
-process : (c : After-enter-e) → c.args.req.number ≢ day_number
+process : (c : After-enter) → c.args.req.number ≢ day_number
 process c = c.if-req-eq-DAY.false
-
-entered : (c : After-enter-e) → entry_of c.enter-e.result c.enter-e.new.bytes c.enter-e.new.words ≡ entry c.args.bytes.now c.args.links.now c.args.words.now (call_on c.args.req c.args.text.now (slices c.args.bytes.now c.args.links.now c.args.words.now c.args.buffer.now c.args.scratch.now))
-entered c = c.enter-e.ensures c.args.text.now refl
 
 pub returns-then-req-eq-DAY : goal.returns-then-req-eq-DAY
 unfolding call_of
@@ -72,26 +69,32 @@ returns-then-req-eq-DAY c =
     (c.set_day.ensures c.args.bytes.now c.args.words.now) refl refl)
     (sym (step-host c.args.bytes.now c.args.links.now c.args.words.now (call_on c.args.req c.args.text.now (slices c.args.bytes.now c.args.links.now c.args.words.now c.args.buffer.now c.args.scratch.now)) c.if-req-eq-DAY.true)))
 
-pub enter-e-requires : goal.enter-e-requires
-enter-e-requires c = plain c.requires
+pub enter-requires : goal.enter-requires
+enter-requires c = plain c.requires
+
+-- the refusal is handed on
+pub returns-in_err-e : goal.returns-in_err-e
+unfolding call_of
+returns-in_err-e c =
+    let q = err_from_is_err_and _ c.from_residual.ensures.1 in
+    let r = c.in_err-e.field-0.0 in
+    subst (λ x. Stepped c.args.req c.args.text.now x (slices c.args.bytes.now c.args.links.now c.args.words.now c.args.buffer.now c.args.scratch.now)
+    (slices c.enter.new.bytes c.args.links.now c.enter.new.words c.args.buffer.now c.args.scratch.now))
+    (sym (q.1 ∙ ap Err q.2))
+    (promised (goal.at.returns-in_err-e c).Start (ends-refused (number-some r) (refuses r)
+    (step-stops own_run c.args.links.now (call_on c.args.req c.args.text.now (slices c.args.bytes.now c.args.links.now c.args.words.now c.args.buffer.now c.args.scratch.now)) c.args.bytes.now c.args.words.now
+    c.enter.new.bytes c.enter.new.words r (c.in_err-e.ensures c.args.text.now refl)
+    ∙ sym (step-process c.args.bytes.now c.args.links.now c.args.words.now (call_on c.args.req c.args.text.now (slices c.args.bytes.now c.args.links.now c.args.words.now c.args.buffer.now c.args.scratch.now)) (process (goal.at.returns-in_err-e c).After-enter))) refl refl))
 
 pub own-requires : goal.own-requires
 own-requires c =
-    own-asks c.requires.shape (enter-begins (plain c.requires) (call_on c.args.req c.args.text.now (slices c.args.bytes.now c.args.links.now c.args.words.now c.args.buffer.now c.args.scratch.now)) c.enter-e.result c.enter-e.new.bytes
-    c.enter-e.new.words (entered (goal.at.own-requires c).After-enter-e) c.if-e-eq-DONE.true)
-
-pub returns-then-e-eq-DONE : goal.returns-then-e-eq-DONE
-unfolding call_of
-returns-then-e-eq-DONE c =
-    promised (goal.at.returns-then-e-eq-DONE c).Start (ends_of c.own.ensures
-    (step-begins own_run c.args.links.now (call_on c.args.req c.args.text.now (slices c.args.bytes.now c.args.links.now c.args.words.now c.args.buffer.now c.args.scratch.now)) c.args.bytes.now c.args.words.now c.enter-e.result
-    c.enter-e.new.bytes c.enter-e.new.words (entered (goal.at.returns-then-e-eq-DONE c).After-enter-e) c.if-e-eq-DONE.true
-    ∙ sym (step-process c.args.bytes.now c.args.links.now c.args.words.now (call_on c.args.req c.args.text.now (slices c.args.bytes.now c.args.links.now c.args.words.now c.args.buffer.now c.args.scratch.now)) (process (goal.at.returns-then-e-eq-DONE c).After-enter-e))))
+    own-asks c.requires.shape (enter-begins (plain c.requires) (call_on c.args.req c.args.text.now (slices c.args.bytes.now c.args.links.now c.args.words.now c.args.buffer.now c.args.scratch.now)) c.in_ok-e.e c.enter.new.bytes
+    c.enter.new.words (c.in_ok-e.ensures c.args.text.now refl))
 
 pub returns : goal.returns
 unfolding call_of
 returns c =
-    promised (goal.at.returns c).Start (ends-refused c.if-e-eq-DONE.false c.refused.ensures
-    (step-stops own_run c.args.links.now (call_on c.args.req c.args.text.now (slices c.args.bytes.now c.args.links.now c.args.words.now c.args.buffer.now c.args.scratch.now)) c.args.bytes.now c.args.words.now c.enter-e.result
-    c.enter-e.new.bytes c.enter-e.new.words (entered (goal.at.returns c).After-enter-e) c.if-e-eq-DONE.false
-    ∙ sym (step-process c.args.bytes.now c.args.links.now c.args.words.now (call_on c.args.req c.args.text.now (slices c.args.bytes.now c.args.links.now c.args.words.now c.args.buffer.now c.args.scratch.now)) (process (goal.at.returns c).After-enter-e))) refl refl)
+    promised (goal.at.returns c).Start (ends_of c.own.ensures
+    (step-begins own_run c.args.links.now (call_on c.args.req c.args.text.now (slices c.args.bytes.now c.args.links.now c.args.words.now c.args.buffer.now c.args.scratch.now)) c.args.bytes.now c.args.words.now
+    c.enter.new.bytes c.enter.new.words c.in_ok-e.e (c.in_ok-e.ensures c.args.text.now refl)
+    ∙ sym (step-process c.args.bytes.now c.args.links.now c.args.words.now (call_on c.args.req c.args.text.now (slices c.args.bytes.now c.args.links.now c.args.words.now c.args.buffer.now c.args.scratch.now)) (process (goal.at.returns c).After-enter))))

@@ -1,7 +1,6 @@
 -- `bill` is refused by 18, or makes the withdraw and goes by its reply.
 use Prim.Native.Nat.{◌+◌, ◌≤◌}
 use native.Mathlib.Omega.{arith}
-use borrow.Author.Rules.{rules}
 use Rattle.product_royalties.specs.Charge.{max_count}
 use Rattle.product_royalties.proofs.Billing.{bill-passes, bill-withdraws}
 use Rattle.product_royalties.proofs.bill.Goals as goal

@@ -1,5 +1,4 @@
 -- `lasts` reads the last day.
-use borrow.Author.Rules.{rules}
 use mathlib.Core.Path.{sym, ap, ◌∙◌}
 use lib.Dec.{leb}
 use Rattle.call_steps.proofs.Holding.{last-day-is}
@@ -7,4 +6,4 @@ use Rattle.question_lend.proofs.lasts.Goals as goal
 
 pub returns : goal.returns
 returns c b w =
-    ap (leb c.args.last_day) (c.wide16.ensures ∙ sym (last-day-is b c.args.links.now w c.args.k c.requires.fact_2))
+    ap (leb c.args.last_day) (c.from.ensures ∙ sym (last-day-is b c.args.links.now w c.args.k c.requires.fact_2))

@@ -1,5 +1,4 @@
 -- `next_block` reads the row of links between blocks, whose slot 0 is 0.
-use Prim.Native.Nat.{◌+◌}
 use mathlib.Core.Path.{sym, ap, ◌∙◌}
 use native.Mathlib.Omega.{arith}
 use Rattle.layout.specs.Layout as Layout
@@ -13,10 +12,8 @@ returns-then-k-eq0 c =
     let a = c.args in
     sym (ap (next_block_of a.links.now) c.if-k-eq0.true ∙ next-zero a.links.now)
 
-pub overflow_cast-result : goal.overflow_cast-result
-overflow_cast-result c = omega (arith, c.type_inv.links (Layout.NEXT_BLOCK + c.args.k))
-
 pub returns : goal.returns
 returns c =
-    sym (field_in 512 Layout.NEXT_BLOCK c.args.links.now c.args.k
+    c.from.ensures
+    ∙ sym (field_in 512 Layout.NEXT_BLOCK c.args.links.now c.args.k
     (omega (arith, c.if-k-eq0.false)) c.requires.1)

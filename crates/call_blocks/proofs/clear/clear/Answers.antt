@@ -9,11 +9,8 @@ use Rattle.call_blocks.proofs.Walking.{passing-none, passing-more, passing-all}
 use Rattle.call_blocks.proofs.Walking.{Clearing, clearing-none, clearing-more, clearing-all}
 use Rattle.call_blocks.proofs.clear.clear.Goals as goal
 
-pub free_head-block-requires : goal.free_head-block-requires
-free_head-block-requires c = c.requires.fact_2.links
-
-pub loop-i-init : goal.loop-i-init
-loop-i-init c =
+pub loop-init : goal.loop-init
+loop-init c =
     let a = c.args in (
       subst (Clearing (next_block_of a.links.now) (free_head a.links.now) a.n a.bytes.now a.bytes.now 0)
           (sym c.free_head-block.ensures) (clearing-none a.bytes.now (enough-rest c.requires.fact_2)),
@@ -22,36 +19,27 @@ loop-i-init c =
 
 pub clear_block-requires : goal.clear_block-requires
 clear_block-requires c =
-    let now = c.loop-i in
+    let now = c.loop in
     (now.invariant.0.size ∙ c.requires.fact_1, rest-high now.invariant.0.chain)
 
 pub next_block-block-requires : goal.next_block-block-requires
-next_block-block-requires c = (c.requires.fact_2.links, rest-high c.loop-i.invariant.0.chain)
+next_block-block-requires c = (c.requires.fact_2.links, rest-high c.loop.invariant.0.chain)
 
-pub overflow_add-i : goal.overflow_add-i
-overflow_add-i c = omega arith
-
-pub loop-i-smaller : goal.loop-i-smaller
-loop-i-smaller c = omega arith
-
-pub loop-i-preserved : goal.loop-i-preserved
-loop-i-preserved c =
+pub loop-preserved : goal.loop-preserved
+loop-preserved c =
     let a = c.args in
-    let now = c.loop-i in (
+    let now = c.loop in (
       subst (Clearing (next_block_of a.links.now) (free_head a.links.now) a.n a.bytes.now
-          c.clear_block.new.bytes (now.i + 1))
+          c.clear_block.new.bytes (now.counter + 1))
           (sym c.next_block-block.ensures)
-          (clearing-more (next-zero a.links.now) now.invariant.0 c.loop-i-test.true _
+          (clearing-more (next-zero a.links.now) now.invariant.0 c.loop-test.true _
           c.clear_block.ensures),
       passing-more now.invariant.1 _ c.next_block-block.ensures,
     )
 
-pub shape_of-bytes : goal.shape_of-bytes
-shape_of-bytes c = c.loop-i.invariant.0.size
-
 pub returns : goal.returns
 returns c =
-    let l = c.loop-i in record {
-      fact_1 = clearing-all l.invariant.0 c.loop-i-test.false;
+    let l = c.loop in record {
+      fact_1 = clearing-all l.invariant.0 c.loop-test.false;
       fact_2 = passing-all l.invariant.1 (omega (arith, l.invariant.0.below));
     }

@@ -5,7 +5,6 @@ use Rattle.values.specs.Words.{password_of, window_of}
 use Rattle.layout.specs.Layout as Layout
 use Rattle.layout.proofs.Field.{row}
 use Rattle.call_derive.proofs.Stops.{child-cells}
-use borrow.Author.Rules.{rules}
 use Rattle.call_derive.proofs.child.child_of.Goals as goal
 
 pub returns : goal.returns
@@ -13,8 +12,8 @@ returns c =
     let a = c.args in
     let at = c.requires.slot in
     record {
-      cap = child-cells a.links.now a.words.now a.k a.rights (window_of a.range) (password_of a.drawn)
-          a.last_day at _ _ _ (c.moved.ensures ∙ ap (moved (window_of a.range)) c.window_at-window.ensures)
-          c.both.ensures c.earlier.ensures;
+      cap = child-cells a.links.now a.words.now a.k a.req.rights (window_of a.req.range) (password_of a.req.drawn)
+          a.req.last_day at _ _ _ (c.moved.ensures ∙ ap (moved (window_of a.req.range)) c.window_at-window.ensures)
+          c.both.ensures c.min.ensures;
       next = sym (row Layout.FIRST_CHILD a.links.now a.k at);
     }

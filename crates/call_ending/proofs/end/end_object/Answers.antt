@@ -1,6 +1,5 @@
 -- `end_object` goes step by step as the definition does.
 use Rattle.call_ending.proofs.Walking.{ended_is}
-use borrow.Author.Rules.{rules}
 use Rattle.call_ending.proofs.end.end_object.Goals as goal
 
 pub returns : goal.returns

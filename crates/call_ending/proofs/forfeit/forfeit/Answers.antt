@@ -1,7 +1,6 @@
 -- `forfeit` adds the moneyword to the holdings.
 use native.Mathlib.Omega.{arith}
 use Rattle.call_ending.proofs.Walking.{forfeit-is, holds-ask}
-use borrow.Author.Rules.{rules}
 use Rattle.call_ending.proofs.forfeit.forfeit.Goals as goal
 
 pub holdings-held-requires : goal.holdings-held-requires

@@ -4,7 +4,6 @@ use mathlib.Core.Path.{ap}
 use lib.ListN.{get_or, set}
 use Rattle.layout.specs.Layout as Layout
 use Rattle.call_ending.specs.Forfeit.{ended_words}
-use borrow.Author.Rules.{rules}
 use Rattle.call_ending.proofs.forfeit.to_house.Goals as goal
 
 pub returns : goal.returns

@@ -1,14 +1,8 @@
--- `free_object` stores to three cells.
-use mathlib.Core.Path.{refl}
-use native.Mathlib.Omega.{arith}
-use lib.ListN.{length-set}
+-- `free_object` frees a record of the objects.
+use Rattle.call_prune.specs.Links.{freed}
 use Rattle.call_ending.specs.Links.{freed_object}
-use borrow.Author.Rules.{rules}
 use Rattle.call_ending.proofs.free.free_object.Goals as goal
 
-pub bounds-links-o-2 : goal.bounds-links-o-2
-bounds-links-o-2 c = simp length-set (omega arith)
-
 pub returns : goal.returns
-unfolding freed_object
-returns c = refl
+unfolding freed freed_object
+returns c = c.free_record.ensures

@@ -1,87 +1,102 @@
 -- `enter` is refused by 2, 3 or 4, or pays the fee and goes on to 5, 19 and 6.
-use Prim.Native.Nat.{ℕ, ◌≤◌}
-use mathlib.Core.Path.{◌≡◌, sym, ◌∙◌}
+use Prim.Native.Nat.{ℕ}
+use mathlib.Core.Path.{◌≡◌, refl, sym, ap, ◌∙◌, subst}
 use mathlib.Core.Bool.{true}
 use mathlib.Core.List.{List}
-use lib.ListN.{length}
-use borrow.Author.Rules.{rules}
-use Rattle.rules.specs.Store.{State}
-use Rattle.rules.specs.Call.{Call}
-use Rattle.rules.specs.Refusals.{in_range, caller, running}
+use Rattle.std.specs.Prelude.{Err}
+use Rattle.std.proofs.lemmas.Result.{err_from_is_err_and}
+use Rattle.values.specs.declared.refusal.Refusal.TheVariants.{OutOfRange, NotRunning, CannotPay}
+use Rattle.rules.specs.Refusals.{caller, running}
 use Rattle.layout.specs.View.{view}
 use Rattle.call_steps.specs.Request.{call_of}
 use Rattle.call_steps.specs.Run.{Process}
-use Rattle.call_steps.proofs.Callers.{found-high}
+use Rattle.call_steps.proofs.Finding.{slot_of, slot_none}
+use Rattle.call_steps.proofs.Callers.{found-high, process-zero, running-data}
 use Rattle.call_steps.proofs.Charging.{can-pay}
 use Rattle.call_steps.proofs.Entering.{running-process}
-use Rattle.call_enter.proofs.Entering.{enter-two, enter-three, enter-four, enter-paid, payer-paid, plain-paid}
+use Rattle.call_enter.specs.Entry.{entry}
+use Rattle.call_enter.specs.Enters.{Enters}
+use Rattle.call_enter.proofs.Entering.{enter-two, enter-three, enter-four, enter-paid, payer-paid, plain-paid, enters-refused, enters-stopped, enters-on}
 use Rattle.call_enter.proofs.entry.enter.Goals as goal
-use Rattle.call_enter.proofs.entry.enter.Goals.{After-find_object-me, After-running, Then-in_range, Then-running}
+use Rattle.call_enter.proofs.entry.enter.Goals.{In-Some, Else-not-running}
 
-fits : (c : Then-in_range) (d : List ℕ) → length d ≡ c.args.text → in_range (call_of c.args.req d c.args.buffer c.args.scratch) ≡ true
-fits c d long = sym (c.in_range.ensures d long) ∙ c.if-in_range.true
-
-is-caller : (c : After-find_object-me) (d : List ℕ) → c.find_object-me.result ≡ caller (view c.args.bytes.now c.args.links.now c.args.words.now) (call_of c.args.req d c.args.buffer c.args.scratch)
+is-caller : (c : In-Some) (d : List ℕ) → c.in-Some.me ≡ caller (view c.args.bytes.now c.args.links.now c.args.words.now) (call_of c.args.req d c.args.buffer c.args.scratch)
 unfolding call_of caller
-is-caller c d = c.find_object-me.ensures c.args.words.now
-
-high : (c : After-find_object-me) → c.find_object-me.result ≤ 64
-high c = rw (c.find_object-me.ensures c.args.words.now) (found-high _ _)
-
-runs : (c : After-running) → c.running.result ≡ running (view c.args.bytes.now c.args.links.now c.args.words.now) c.find_object-me.result
-runs c = c.running.ensures c.args.words.now
+is-caller c d = (slot_of _ _ (c.in-Some.ensures c.args.words.now)).0
 
 -- the caller runs
-does-run : (c : Then-running) → running (view c.args.bytes.now c.args.links.now c.args.words.now) c.find_object-me.result ≡ true
-does-run c = sym (c.running.ensures c.args.words.now) ∙ c.if-running.true
+runs : (c : Else-not-running) → running (view c.args.bytes.now c.args.links.now c.args.words.now) c.in-Some.me ≡ true
+runs c = sym (c.if-not-running.ensures c.args.words.now)
 
-process : (c : Then-running) → Process c.args.bytes.now c.args.links.now c.find_object-me.result
-process c = running-process c.args.bytes.now c.args.links.now c.args.words.now _ (sym (c.running.ensures c.args.words.now) ∙ c.if-running.true)
+process : (c : Else-not-running) → Process c.args.bytes.now c.args.links.now c.in-Some.me
+process c = running-process c.args.bytes.now c.args.links.now c.args.words.now _ (runs c)
 
-pub running-requires : goal.running-requires
-running-requires c =
-    let z = c.requires.sized in record {
-      fact_1 = record { bytes = z.bytes; links = z.links };
-      fact_2 = high c;
-    }
+pub returns-then-not-in_range : goal.returns-then-not-in_range
+unfolding call_of
+returns-then-not-in_range c d long =
+    enters-refused OutOfRange (enter-two c.args.bytes.now c.args.links.now c.args.words.now
+    (call_of c.args.req d c.args.buffer c.args.scratch) (sym (c.if-not-in_range.ensures d long)))
+
+-- no object has the caller's name, so slot 0 is the rules' caller
+pub returns-in_default : goal.returns-in_default
+unfolding call_of caller
+returns-in_default c d long =
+    let a = c.args in
+    enters-refused NotRunning (enter-three a.bytes.now a.links.now a.words.now (call_of a.req d a.buffer a.scratch) 0
+    (sym (c.if-not-in_range.ensures d long)) (sym (slot_none _ (c.in_default.ensures a.words.now)))
+    (sym (running-data (view a.bytes.now a.links.now a.words.now) 0 (process-zero a.bytes.now a.links.now a.words.now 0 refl))))
+
+pub running-requires-clause-fact_2 : goal.running-requires-clause-fact_2
+running-requires-clause-fact_2 c = rw ((slot_of _ _ (c.in-Some.ensures c.args.words.now)).0) (found-high _ _)
+
+pub returns-then-not-running : goal.returns-then-not-running
+unfolding call_of
+returns-then-not-running c d long =
+    let a = c.args in
+    enters-refused NotRunning (enter-three a.bytes.now a.links.now a.words.now (call_of a.req d a.buffer a.scratch) c.in-Some.me
+    (sym (c.if-not-in_range.ensures d long)) (is-caller (goal.at.returns-then-not-running c).In-Some d)
+    (sym (c.if-not-running.ensures a.words.now)))
 
 pub pay-requires : goal.pay-requires
 pay-requires c =
-    can-pay c.args.bytes.now c.args.links.now c.args.words.now c.requires _ (process (goal.at.pay-requires c).Then-running)
+    can-pay c.args.bytes.now c.args.links.now c.args.words.now c.requires _ (process (goal.at.pay-requires c).Else-not-running)
 
-pub show-requires : goal.show-requires
-show-requires c =
-    let paid = c.if-pay.true in record {
-      fact_1 = plain-paid c.args.bytes.now c.args.links.now c.args.words.now _ (process (goal.at.show-requires c).Then-running) _ c.pay.ensures paid c.requires;
-      fact_2 = payer-paid c.args.bytes.now c.args.links.now c.args.words.now _ (process (goal.at.show-requires c).Then-running) _ c.pay.ensures paid;
-    }
-
-pub returns-then-pay : goal.returns-then-pay
+pub returns-in_err-pay : goal.returns-in_err-pay
 unfolding call_of
-returns-then-pay c d long =
-    c.show.ensures
-    ∙ enter-paid c.args.bytes.now c.args.links.now c.args.words.now (call_of c.args.req d c.args.buffer c.args.scratch) c.find_object-me.result
-    (fits (goal.at.returns-then-pay c).Then-in_range d long) (is-caller (goal.at.returns-then-pay c).After-find_object-me d) (does-run (goal.at.returns-then-pay c).Then-running) _ c.fee_of-fee.ensures c.pay.ensures
-    c.if-pay.true
+returns-in_err-pay c d long =
+    let a = c.args in
+    let at = (goal.at.returns-in_err-pay c).Else-not-running in
+    subst (λ r. Enters r c.pay.new.bytes c.pay.new.words (entry a.bytes.now a.links.now a.words.now (call_of a.req d a.buffer a.scratch)))
+    (let q = err_from_is_err_and _ c.from_residual.ensures.1 in sym (q.1 ∙ ap Err (q.2 ∙ c.in_err-pay.ensures.refusal)))
+    (enters-refused CannotPay (enter-four a.bytes.now a.links.now a.words.now (call_of a.req d a.buffer a.scratch) c.in-Some.me
+    (sym (c.if-not-in_range.ensures d long)) (is-caller (goal.at.returns-in_err-pay c).In-Some d) (runs at) _ c.fee_of-fee.ensures c.in_err-pay.ensures.slices refl))
 
-pub returns-then-running : goal.returns-then-running
-unfolding call_of
-returns-then-running c d long =
-    c.refuse.ensures _ _
-    ∙ enter-four c.args.bytes.now c.args.links.now c.args.words.now (call_of c.args.req d c.args.buffer c.args.scratch) c.find_object-me.result
-    (fits (goal.at.returns-then-running c).Then-in_range d long) (is-caller (goal.at.returns-then-running c).After-find_object-me d) (does-run (goal.at.returns-then-running c).Then-running) _ c.fee_of-fee.ensures c.pay.ensures
-    c.if-pay.false
+pub show-requires-clause-plain : goal.show-requires-clause-plain
+show-requires-clause-plain c =
+    plain-paid c.args.bytes.now c.args.links.now c.args.words.now _ (process (goal.at.show-requires-clause-plain c).Else-not-running) _ c.in_ok-pay.ensures.slices refl c.requires
 
-pub returns-then-in_range : goal.returns-then-in_range
+pub show-requires-clause-process : goal.show-requires-clause-process
+show-requires-clause-process c =
+    payer-paid c.args.bytes.now c.args.links.now c.args.words.now _ (process (goal.at.show-requires-clause-process c).Else-not-running) _ c.in_ok-pay.ensures.slices refl
+
+pub returns-in_err-slot : goal.returns-in_err-slot
 unfolding call_of
-returns-then-in_range c d long =
-    c.refuse-then-in_range.ensures _ _
-    ∙ enter-three c.args.bytes.now c.args.links.now c.args.words.now (call_of c.args.req d c.args.buffer c.args.scratch) c.find_object-me.result
-    (fits (goal.at.returns-then-in_range c).Then-in_range d long) (is-caller (goal.at.returns-then-in_range c).After-find_object-me d) (sym (runs (goal.at.returns-then-in_range c).After-running) ∙ c.if-running.false)
+returns-in_err-slot c d long =
+    let a = c.args in
+    let q = err_from_is_err_and _ c.from_residual-in_err-slot.ensures.1 in
+    subst (λ r. Enters r c.pay.new.bytes c.pay.new.words (entry a.bytes.now a.links.now a.words.now (call_of a.req d a.buffer a.scratch)))
+    (sym (q.1 ∙ ap Err q.2))
+    (enters-stopped a.links.now c.in-Some.me _ _
+    (enter-paid a.bytes.now a.links.now a.words.now (call_of a.req d a.buffer a.scratch) c.in-Some.me
+    (sym (c.if-not-in_range.ensures d long)) (is-caller (goal.at.returns-in_err-slot c).In-Some d) (runs (goal.at.returns-in_err-slot c).Else-not-running) _
+    c.fee_of-fee.ensures c.in_ok-pay.ensures.slices refl)
+    c.in_err-slot.field-0.0 c.in_err-slot.ensures)
 
 pub returns : goal.returns
 unfolding call_of
 returns c d long =
-    c.refuse-2.ensures _ _
-    ∙ enter-two c.args.bytes.now c.args.links.now c.args.words.now (call_of c.args.req d c.args.buffer c.args.scratch)
-    (sym (c.in_range.ensures d long) ∙ c.if-in_range.false)
+    let a = c.args in
+    enters-on a.links.now c.in-Some.me _ _
+    (enter-paid a.bytes.now a.links.now a.words.now (call_of a.req d a.buffer a.scratch) c.in-Some.me
+    (sym (c.if-not-in_range.ensures d long)) (is-caller (goal.at.returns c).In-Some d) (runs (goal.at.returns c).Else-not-running) _ c.fee_of-fee.ensures c.in_ok-pay.ensures.slices refl)
+    c.in_ok-slot.slot c.in_ok-slot.ensures

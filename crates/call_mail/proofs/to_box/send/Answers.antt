@@ -2,14 +2,14 @@
 use Prim.Native.Nat.{◌+◌, ◌≤◌}
 use mathlib.Core.Path.{refl, sym, ◌∙◌}
 use native.Mathlib.Omega.{arith}
-use lib.ListN.{get_or, length-set}
+use lib.ListN.{get_or}
 use borrow.Author.Tests.{le-leb, lt-leb}
-use borrow.Author.Rules.{rules}
 use Rattle.rules.specs.Refusals.{◌when◌, first}
 use Rattle.layout.specs.Layout as Layout
-use Rattle.call_steps.proofs.Replying.{refused-is, done-is}
+use Rattle.values.specs.declared.refusal.Refusal.TheVariants.{NotProcess, TooLittle, BoxFull}
+use Rattle.call_steps.proofs.Replying.{refuses, refused-is, done-is}
 use Rattle.call_mail.specs.Runs.{message_slot}
-use Rattle.call_mail.proofs.Stops.{placed-bytes-length, placed-words-length, Sending, slot_of, send-met, send-done}
+use Rattle.call_mail.proofs.Stops.{Sending, slot_of, send-met, send-done}
 use Rattle.call_mail.proofs.to_box.send.Goals as goal
 use Rattle.call_mail.proofs.to_box.send.Goals.{After-is_process, Else-count-ge-MAX_MESSAGES}
 
@@ -25,92 +25,33 @@ sending c = record {
 below-259 : (c : Else-count-ge-MAX_MESSAGES) → message_slot c.target-o.result (get_or c.args.bytes.now (Layout.COUNT + c.target-o.result) 0) ≤ 259
 below-259 c = omega (arith, (slot_of (record { caller = c.requires.caller; target = c.requires.target; found = c.target-o.ensures; process = c.is_process.ensures })).high, c.if-count-ge-MAX_MESSAGES.false)
 
-pub is_process-requires : goal.is_process-requires
-is_process-requires c =
-    let pre = c.requires in record {
-      fact_1 = record { bytes = pre.sized.bytes; links = pre.sized.links };
-      fact_2 = rw c.target-o.ensures pre.target.slot.high;
-    }
+pub returns-then-not-is_process : goal.returns-then-not-is_process
+unfolding first ◌when◌
+returns-then-not-is_process c =
+    let a = c.args in
+    refused-is (refuses NotProcess)
+    (send-met (sending (goal.at.returns-then-not-is_process c).After-is_process) a.words.now a.sum a.text.now 8 c.if-not-is_process.true refl refl refl (omega arith))
 
 pub returns-then-below : goal.returns-then-below
 unfolding first ◌when◌
 returns-then-below c =
     let a = c.args in
-    refused-is c.refused.ensures
-    (send-met (sending (goal.at.returns-then-below c).After-is_process) a.words.now a.sum a.text.now 9 c.if-is_process.true
+    refused-is (refuses TooLittle)
+    (send-met (sending (goal.at.returns-then-below c).After-is_process) a.words.now a.sum a.text.now 9 c.if-not-is_process.false
     (sym c.below.ensures ∙ c.if-below.true) refl refl (omega arith))
-
-pub overflow_add-count : goal.overflow_add-count
-overflow_add-count c = omega (arith, (slot_of (sending (goal.at.overflow_add-count c).After-is_process)).high)
-
-pub bounds-bytes-o : goal.bounds-bytes-o
-bounds-bytes-o c =
-    omega (arith, (slot_of (sending (goal.at.bounds-bytes-o c).After-is_process)).high, c.requires.sized.bytes)
 
 pub returns-then-count-ge-MAX_MESSAGES : goal.returns-then-count-ge-MAX_MESSAGES
 unfolding first ◌when◌
 returns-then-count-ge-MAX_MESSAGES c =
     let a = c.args in
-    refused-is c.refused-then-count-ge-MAX_MESSAGES.ensures
-    (send-met (sending (goal.at.returns-then-count-ge-MAX_MESSAGES c).After-is_process) a.words.now a.sum a.text.now 14 c.if-is_process.true
+    refused-is (refuses BoxFull)
+    (send-met (sending (goal.at.returns-then-count-ge-MAX_MESSAGES c).After-is_process) a.words.now a.sum a.text.now 14 c.if-not-is_process.false
     (sym c.below.ensures ∙ c.if-below.false) (le-leb 4 _ c.if-count-ge-MAX_MESSAGES.true) refl (omega arith))
 
-pub overflow_mul-o : goal.overflow_mul-o
-overflow_mul-o c = omega (arith, below-259 (goal.at.overflow_mul-o c).Else-count-ge-MAX_MESSAGES)
-
-pub overflow_add-o : goal.overflow_add-o
-overflow_add-o c = omega (arith, below-259 (goal.at.overflow_add-o c).Else-count-ge-MAX_MESSAGES)
-
-pub place-requires : goal.place-requires
-place-requires c =
-    let pre = c.requires in
-    record {
-      bytes = pre.sized.bytes;
-      words = simp length-set pre.sized.words;
-      short = pre.short;
-      high = below-259 (goal.at.place-requires c).Else-count-ge-MAX_MESSAGES;
-    }
-
-pub overflow_add-bytes : goal.overflow_add-bytes
-overflow_add-bytes c = omega (arith, c.if-count-ge-MAX_MESSAGES.false)
-
-pub overflow_add-bytes-then-is_process : goal.overflow_add-bytes-then-is_process
-overflow_add-bytes-then-is_process c =
-    omega (arith, below-259 (goal.at.overflow_add-bytes-then-is_process c).Else-count-ge-MAX_MESSAGES)
-
-pub bounds-bytes-o-then-is_process : goal.bounds-bytes-o-then-is_process
-bounds-bytes-o-then-is_process c =
-    omega (arith, placed-bytes-length c.place.ensures, (slot_of (sending (goal.at.bounds-bytes-o-then-is_process c).After-is_process)).high, c.requires.sized.bytes)
-
-pub overflow_add-bytes-then-is_process-2 : goal.overflow_add-bytes-then-is_process-2
-overflow_add-bytes-then-is_process-2 c =
-    omega (arith, below-259 (goal.at.overflow_add-bytes-then-is_process-2 c).Else-count-ge-MAX_MESSAGES)
-
-pub bounds-bytes-o-then-is_process-2 : goal.bounds-bytes-o-then-is_process-2
-bounds-bytes-o-then-is_process-2 c =
-    simp length-set
-    (omega (arith, placed-bytes-length c.place.ensures, (slot_of (sending (goal.at.bounds-bytes-o-then-is_process-2 c).After-is_process)).high, c.requires.sized.bytes))
-
-pub shape_of-bytes-then-is_process : goal.shape_of-bytes-then-is_process
-shape_of-bytes-then-is_process c = simp length-set (placed-bytes-length c.place.ensures)
-
-pub shape_of-words-then-is_process : goal.shape_of-words-then-is_process
-shape_of-words-then-is_process c =
-    let a = c.args in
-    placed-words-length c.place.ensures
-    ∙ length-set a.words.now (Layout.CASH + a.me) c.less-left.result.0
-
-pub returns-then-is_process : goal.returns-then-is_process
-returns-then-is_process c =
-    let a = c.args in
-    done-is c.done.ensures
-    (send-done (sending (goal.at.returns-then-is_process c).After-is_process) a.words.now a.sum a.text.now c.place.ensures
-    c.less-left.ensures c.if-is_process.true
-    (sym c.below.ensures ∙ c.if-below.false) (lt-leb 4 _ c.if-count-ge-MAX_MESSAGES.false))
-
 pub returns : goal.returns
-unfolding first ◌when◌
 returns c =
     let a = c.args in
-    refused-is c.refused-2.ensures
-    (send-met (sending (goal.at.returns c).After-is_process) a.words.now a.sum a.text.now 8 c.if-is_process.false refl refl refl (omega arith))
+    done-is c.done.ensures
+    (send-done (sending (goal.at.returns c).After-is_process) a.words.now a.sum a.text.now (rw c.from.ensures at c.place.ensures)
+    c.less-left.ensures c.if-not-is_process.false
+    (sym c.below.ensures ∙ c.if-below.false) (lt-leb 4 _ c.if-count-ge-MAX_MESSAGES.false))

@@ -1,6 +1,5 @@
 -- `hold` clears the blocks and takes them.
 use Rattle.call_make.proofs.Placing.{hold-enough, holds-is}
-use borrow.Author.Rules.{rules}
 use Rattle.call_make.proofs.make.hold.Goals as goal
 
 pub clear-last-requires : goal.clear-last-requires

@@ -1,7 +1,6 @@
 -- `master_of` is the record of its fields.
 use mathlib.Core.Path.{refl}
 use Rattle.call_make.specs.Runs.{master_cap}
-use borrow.Author.Rules.{rules}
 use Rattle.call_make.proofs.make.master_of.Goals as goal
 
 pub returns : goal.returns

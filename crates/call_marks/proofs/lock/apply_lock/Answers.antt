@@ -1,24 +1,19 @@
 -- `apply_lock` stores the two XORed words of the target's lockword, or is stopped by 8.
-use native.Mathlib.Omega.{arith}
-use lib.ListN.{length-set}
-use Rattle.call_steps.proofs.Replying.{refused-is, done-is}
-use Rattle.call_marks.proofs.Stops.{Found, lock-met, lock-done}
-use borrow.Author.Rules.{rules}
+use mathlib.Core.Path.{sym}
+use Rattle.std.proofs.lemmas.Result.{err_from_is_err_and}
+use Rattle.call_steps.proofs.Replying.{replies-refused, done-is}
+use Rattle.call_marks.specs.Runs.{lock_run}
+use Rattle.call_marks.proofs.Stops.{lock-done}
 use Rattle.call_marks.proofs.lock.apply_lock.Goals as goal
-use Rattle.call_marks.proofs.lock.apply_lock.Goals.{After-has_flag}
 
-found : (c : After-has_flag) → Found c.args.bytes.now c.args.links.now c.args.k c.target-o.result c.has_flag.result
-found c = record { target = c.target-o.ensures; process = c.has_flag.ensures }
-
-pub bounds-words-o-then-has_flag-3 : goal.bounds-words-o-then-has_flag-3
-bounds-words-o-then-has_flag-3 c = simp length-set (omega arith)
-
-pub returns-then-has_flag : goal.returns-then-has_flag
-returns-then-has_flag c =
-    done-is c.done.ensures
-    (lock-done (found (goal.at.returns-then-has_flag c).After-has_flag) c.args.words.now c.args.lock c.if-has_flag.true c.requires.target
-    c.xor_words-x.result c.xor_words-x.ensures)
+pub returns-in_err-o : goal.returns-in_err-o
+unfolding lock_run
+returns-in_err-o c =
+    let p = err_from_is_err_and c.from_residual.result c.from_residual.ensures.1 in
+    rw (p.1, p.2) (replies-refused _ _ (sym c.in_err-o.ensures.code))
 
 pub returns : goal.returns
 returns c =
-    refused-is c.refused.ensures (lock-met (found (goal.at.returns c).After-has_flag) c.args.words.now c.args.lock c.if-has_flag.false)
+    done-is c.done.ensures
+    (lock-done _ _ _ c.args.words.now c.in_ok-o.ensures.slot c.in_ok-o.ensures.code c.args.lock c.requires.target
+    c.xor_words-x.result c.xor_words-x.ensures)

@@ -1,17 +1,18 @@
 -- `set_suspended` stores the target's mark, or is stopped by 8.
-use borrow.Author.Rules.{rules}
-use Rattle.call_steps.proofs.Replying.{refused-is, done-is}
-use Rattle.call_marks.proofs.Stops.{Found, suspended-met, suspended-done}
+use mathlib.Core.Path.{sym}
+use Rattle.std.proofs.lemmas.Result.{err_from_is_err_and}
+use Rattle.call_steps.proofs.Replying.{replies-refused, done-is}
+use Rattle.call_marks.specs.Runs.{suspended_run}
+use Rattle.call_marks.proofs.Stops.{suspended-done}
 use Rattle.call_marks.proofs.mark.set_suspended.Goals as goal
-use Rattle.call_marks.proofs.mark.set_suspended.Goals.{After-has_flag}
 
-found : (c : After-has_flag) → Found c.args.bytes.now c.args.links.now c.args.k c.target-o.result c.has_flag.result
-found c = record { target = c.target-o.ensures; process = c.has_flag.ensures }
-
-pub returns-then-has_flag : goal.returns-then-has_flag
-returns-then-has_flag c w =
-    done-is c.done.ensures (suspended-done (found (goal.at.returns-then-has_flag c).After-has_flag) c.if-has_flag.true w c.args.mark)
+pub returns-in_err-o : goal.returns-in_err-o
+unfolding suspended_run
+returns-in_err-o c w =
+    let p = err_from_is_err_and c.from_residual.result c.from_residual.ensures.1 in
+    rw (p.1, p.2) (replies-refused _ _ (sym c.in_err-o.ensures.code))
 
 pub returns : goal.returns
 returns c w =
-    refused-is c.refused.ensures (suspended-met (found (goal.at.returns c).After-has_flag) c.if-has_flag.false w c.args.mark)
+    rw c.from.ensures
+    (done-is c.done.ensures (suspended-done _ _ _ w c.in_ok-o.ensures.slot c.in_ok-o.ensures.code _))

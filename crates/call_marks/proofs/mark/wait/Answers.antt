@@ -1,11 +1,9 @@
 -- `wait` stores the caller's waiting mark, where the caller's box is empty.
 use Prim.Native.Nat.{ℕ, ◌+◌}
 use mathlib.Core.Path.{◌≡◌, sym, ap, ◌∙◌}
-use mathlib.Core.Logic.{⊎_elim}
 use mathlib.Core.List.{List}
 use lib.Dec.{eqb}
-use lib.ListN.{length, length-set, get_or}
-use borrow.Author.Rules.{rules}
+use lib.ListN.{get_or}
 use borrow.Author.Tests.{eq-eqb, ne_eqb}
 use Rattle.rules.proofs.Tests.{pick_yes, pick-not}
 use Rattle.layout.specs.Layout as Layout
@@ -26,13 +24,6 @@ waited c = let b : List ℕ = c.args.bytes.now in
       | then-bytes-me-eq0 w ↦ w.bytes-is ∙ sym (pick_yes (eqb (count_of b me) 0) _ _ (eq-eqb _ 0 (count ∙ w.if-bytes-me-eq0.true)))
       | else-bytes-me-eq0 w ↦ w.bytes-is
           ∙ sym (pick-not (eqb (count_of b me) 0) _ _ (ne_eqb _ 0 (λ z. w.if-bytes-me-eq0.false (sym count ∙ z))))
-    ]
-
-pub shape_of-bytes : goal.shape_of-bytes
-shape_of-bytes c =
-    elim c.if-bytes-me-eq0.branch [
-      | then-bytes-me-eq0 w ↦ ap length w.bytes-is ∙ simp length-set
-      | else-bytes-me-eq0 w ↦ ap length w.bytes-is
     ]
 
 pub returns : goal.returns

@@ -1,12 +1,7 @@
 -- `move_cash` stores what is left of one cash, and then the sum of the other.
 use native.Mathlib.Omega.{arith}
-use lib.ListN.{length-set}
 use Rattle.call_marks.proofs.Stops.{moved-room, moved-is}
-use borrow.Author.Rules.{rules}
 use Rattle.call_marks.proofs.terminated.move_cash.Goals as goal
-
-pub bounds-words-o : goal.bounds-words-o
-bounds-words-o c = simp length-set (omega arith)
 
 pub overflow_add-words-2 : goal.overflow_add-words-2
 overflow_add-words-2 c =
@@ -16,9 +11,6 @@ overflow_add-words-2 c =
       moved-room a.words.now a.me a.o a.sum c.less-left.result.0 c.requires.fact_2 c.requires.fact_3
           c.less-left.ensures c.requires.fact_4,
     )
-
-pub bounds-words-o-2 : goal.bounds-words-o-2
-bounds-words-o-2 c = simp length-set (omega arith)
 
 pub returns : goal.returns
 returns c =

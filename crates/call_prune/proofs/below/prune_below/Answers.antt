@@ -1,30 +1,31 @@
 -- `prune_below` takes turn after turn; the number of turns left falls.
-use native.Mathlib.Omega.{arith}
+use Rattle.std.proofs.Common.{◌∙◌, sym}
 use Rattle.call_prune.proofs.Pruning.{turn-placed}
-use Rattle.call_prune.proofs.Measuring.{left-falls, turning-start, turning-more, turning-end}
+use Rattle.call_prune.proofs.Measuring.{left-falls, turning-start, turning-at, turning-more, turning-end, turn-on}
 use Rattle.call_prune.proofs.below.prune_below.Goals as goal
 
-pub loop-j-init : goal.loop-j-init
-loop-j-init c = turning-start c.requires
+pub loop-next-init : goal.loop-next-init
+loop-next-init c = (turning-start c.requires, turning-at c.requires)
 
-pub turn-j-requires : goal.turn-j-requires
-turn-j-requires c =
-    let t = c.loop-j.invariant in
-    turn-placed t.size t.state (λ z. omega (arith, c.loop-j-test.true))
+pub turn-requires : goal.turn-requires
+turn-requires c =
+    let t = c.loop-next.invariant in
+    turn-placed t.0.size t.0.state t.1
 
-pub loop-j-smaller : goal.loop-j-smaller
-loop-j-smaller c =
-    let t = c.loop-j.invariant in
-    rw (c.turn-j.ensures.links-is, c.turn-j.ensures.slot_is)
-    (left-falls t.size t.state (λ z. omega (arith, c.loop-j-test.true)))
+pub loop-next-smaller : goal.loop-next-smaller
+loop-next-smaller c =
+    let t = c.loop-next.invariant in
+    let T = c.in-Some.ensures in
+    rw (T.links-is, T.slot_is) (left-falls t.0.size t.0.state t.1)
 
-pub loop-j-preserved : goal.loop-j-preserved
-loop-j-preserved c =
-    rw (c.turn-j.ensures.links-is, c.turn-j.ensures.slot_is)
-    (turning-more c.loop-j.invariant (λ z. omega (arith, c.loop-j-test.true)))
-
-pub shape_of-links : goal.shape_of-links
-shape_of-links c = c.loop-j.invariant.state.rows.sized
+pub loop-next-preserved : goal.loop-next-preserved
+loop-next-preserved c =
+    let t = c.loop-next.invariant in
+    let T = c.in-Some.ensures in
+    (rw (T.links-is, T.slot_is) (turning-more t.0 t.1), turn-on t.0 t.1 T)
 
 pub returns : goal.returns
-returns c = turning-end c.loop-j.invariant (omega (arith, c.loop-j-test.false))
+returns c =
+    let t = c.loop-next.invariant in
+    let T = c.in_default.ensures in
+    T.links-is ∙ turning-end (turning-more t.0 t.1) (sym T.slot_is)

@@ -6,5 +6,5 @@ use Rattle.call_prune.proofs.leaf.named_at.Goals as goal
 pub returns-then-q-eq0 : goal.returns-then-q-eq0
 returns-then-q-eq0 c = sym (named-first _ _ c.if-q-eq0.true)
 
-pub returns : goal.returns
-returns c = sym (named-next _ _ c.if-q-eq0.false)
+pub returns-else-q-eq0 : goal.returns-else-q-eq0
+returns-else-q-eq0 c = sym (named-next _ _ c.if-q-eq0.false)

@@ -4,7 +4,7 @@ use mathlib.Core.Bool.{false}
 use Prim.Native.Nat.{ℕ}
 use native.Mathlib.Omega.{arith}
 use Rattle.layout.specs.Rows.{parent_of, money_of}
-use Rattle.call_purse.specs.Climb.{climb_stops, stops as stops_at}
+use Rattle.call_purse.specs.Climb.{stops as stops_at}
 use Rattle.call_purse.proofs.Climbing.{Step, step_of, stops-top, stops-here, stops-next}
 use Rattle.call_purse.proofs.climb.+climb_stops.Goals as goal
 use Rattle.call_purse.proofs.climb.+climb_stops.Goals.{Else-k-eq0, Else-up-eq0, Else-stops, After-above}

@@ -1,5 +1,4 @@
 -- The cell of slot k in the row of moneywords.
-use borrow.Author.Rules.{rules}
 use mathlib.Core.Path.{sym}
 use Rattle.layout.specs.Layout as Layout
 use Rattle.layout.proofs.Field.{field_in}

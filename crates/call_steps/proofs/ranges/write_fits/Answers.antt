@@ -1,13 +1,10 @@
--- `write_fits` is what the rules ask of write.
-use mathlib.Core.Path.{sym, ◌∙◌}
-use Rattle.call_steps.proofs.Fitting.{transfer-ordered}
+-- `write_fits` is what the rules ask of write: where the range fits, its start is not after its end.
+use mathlib.Core.Path.{sym}
+use borrow.Author.Tests.{leb-true}
+use Rattle.rules.specs.Refusals.{ordered, transfer_fits}
+use Rattle.rules.proofs.Tests.{all2}
 use Rattle.call_steps.proofs.ranges.write_fits.Goals as goal
 
-pub overflow_sub-size : goal.overflow_sub-size
-overflow_sub-size c = transfer-ordered _ (sym c.transfer_fits.ensures ∙ c.if-transfer_fits.true)
-
-pub returns-then-transfer_fits : goal.returns-then-transfer_fits
-returns-then-transfer_fits c = rw (sym c.transfer_fits.ensures ∙ c.if-transfer_fits.true)
-
-pub returns-else-transfer_fits : goal.returns-else-transfer_fits
-returns-else-transfer_fits c = rw (sym c.transfer_fits.ensures ∙ c.if-transfer_fits.false)
+pub overflow_sub-result : goal.overflow_sub-result
+unfolding ordered transfer_fits
+overflow_sub-result c = leb-true _ _ (all2 _ _ (sym c.if-transfer_fits.ensures)).0

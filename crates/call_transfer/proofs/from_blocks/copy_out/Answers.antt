@@ -1,5 +1,5 @@
 -- `copy_out` copies part by part, and walks the chain once.
-use Prim.Native.Nat.{◌+◌, ◌*◌, ◌-◌, ◌%◌, ◌≤◌}
+use Prim.Native.Nat.{◌+◌, ◌*◌, ◌%◌, ◌≤◌}
 use mathlib.Core.Path.{◌≡◌, refl, ap, ◌∙◌}
 use native.Mathlib.Omega.{arith}
 use lib.ListN.{get_or, length}
@@ -7,8 +7,7 @@ use Rattle.layout.specs.Layout as Layout
 use Rattle.call_steps.specs.Copies.{laid, copied}
 use Rattle.call_transfer.specs.Runs.{cell_of, copied_out}
 use Rattle.call_steps.proofs.Laid.{laid-length}
-use Rattle.call_transfer.proofs.Copying.{Walking, walk-blocked, walk-starts, walk_block, part-cell, walk-on, laid_more}
-use borrow.Author.Rules.{rules}
+use Rattle.call_transfer.proofs.Copying.{walk-blocked, walk-starts, walk_block, part-cell, walk-on, laid_more}
 use Rattle.call_transfer.proofs.from_blocks.copy_out.Goals as goal
 use Rattle.call_transfer.proofs.from_blocks.copy_out.Goals.{At-loop-i, In-loop-i}
 
@@ -25,9 +24,6 @@ block_at-block-requires c = (c.requires.fact_1.links, walk-blocked c.requires.fa
 pub loop-i-init : goal.loop-i-init
 unfolding laid
 loop-i-init c = (walk-starts c.requires.fact_1 _ c.block_at-block.ensures, refl)
-
-pub overflow_add-p : goal.overflow_add-p
-overflow_add-p c = omega (arith, c.requires.fact_1.small)
 
 pub overflow_mul-from : goal.overflow_mul-from
 overflow_mul-from c = omega (arith, here (goal.at.overflow_mul-from c).In-loop-i)
@@ -48,12 +44,6 @@ copy-requires c =
 pub next_block-block-requires : goal.next_block-block-requires
 next_block-block-requires c = (c.requires.fact_1.links, here (goal.at.next_block-block-requires c).In-loop-i)
 
-pub overflow_add-i : goal.overflow_add-i
-overflow_add-i c = omega (arith, c.part_of-m.ensures, c.requires.fact_1.small)
-
-pub loop-i-smaller : goal.loop-i-smaller
-loop-i-smaller c = omega (arith, c.part_of-m.ensures, c.loop-i-test.true)
-
 pub loop-i-preserved : goal.loop-i-preserved
 unfolding copied
 loop-i-preserved c =
@@ -69,9 +59,6 @@ loop-i-preserved c =
           (λ j h. refl)
           (λ j h. ap (λ x. get_or a.bytes.now x 0) (part-cell c.requires.fact_1 w c.loop-i-test.true _ part j h)),
     )
-
-pub shape_of-buffer : goal.shape_of-buffer
-shape_of-buffer c = size (goal.at.shape_of-buffer c).At-loop-i
 
 pub returns : goal.returns
 returns c =

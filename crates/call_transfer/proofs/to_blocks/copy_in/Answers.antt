@@ -1,5 +1,5 @@
 -- `copy_in` copies part by part, and walks the chain once.
-use Prim.Native.Nat.{◌+◌, ◌*◌, ◌-◌, ◌%◌, ◌≤◌}
+use Prim.Native.Nat.{◌+◌, ◌*◌, ◌%◌, ◌≤◌}
 use mathlib.Core.Path.{◌≡◌, refl, ap, ◌∙◌}
 use native.Mathlib.Omega.{arith}
 use lib.ListN.{get_or, length}
@@ -7,8 +7,7 @@ use Rattle.layout.specs.Layout as Layout
 use Rattle.call_steps.specs.Copies.{laid, copied}
 use Rattle.call_transfer.specs.Runs.{cell_of, copied_in}
 use Rattle.call_steps.proofs.Laid.{laid-length}
-use Rattle.call_transfer.proofs.Copying.{Walking, walk-blocked, walk-starts, walk_block, part-cell, walk-on, laid_more}
-use borrow.Author.Rules.{rules}
+use Rattle.call_transfer.proofs.Copying.{walk-blocked, walk-starts, walk_block, part-cell, walk-on, laid_more}
 use Rattle.call_transfer.proofs.to_blocks.copy_in.Goals as goal
 use Rattle.call_transfer.proofs.to_blocks.copy_in.Goals.{At-loop-i, In-loop-i}
 
@@ -25,9 +24,6 @@ block_at-block-requires c = (c.requires.links, walk-blocked c.requires)
 pub loop-i-init : goal.loop-i-init
 unfolding laid
 loop-i-init c = (walk-starts c.requires _ c.block_at-block.ensures, refl)
-
-pub overflow_add-p : goal.overflow_add-p
-overflow_add-p c = omega (arith, c.requires.small)
 
 pub overflow_mul-to : goal.overflow_mul-to
 overflow_mul-to c = omega (arith, here (goal.at.overflow_mul-to c).In-loop-i)
@@ -48,12 +44,6 @@ copy-requires c =
 pub next_block-block-requires : goal.next_block-block-requires
 next_block-block-requires c = (c.requires.links, here (goal.at.next_block-block-requires c).In-loop-i)
 
-pub overflow_add-i : goal.overflow_add-i
-overflow_add-i c = omega (arith, c.part_of-m.ensures, c.requires.small)
-
-pub loop-i-smaller : goal.loop-i-smaller
-loop-i-smaller c = omega (arith, c.part_of-m.ensures, c.loop-i-test.true)
-
 pub loop-i-preserved : goal.loop-i-preserved
 unfolding copied
 loop-i-preserved c =
@@ -69,9 +59,6 @@ loop-i-preserved c =
           (λ j h. part-cell c.requires w c.loop-i-test.true _ part j h)
           (λ j h. refl),
     )
-
-pub shape_of-bytes : goal.shape_of-bytes
-shape_of-bytes c = size (goal.at.shape_of-bytes c).At-loop-i
 
 pub returns : goal.returns
 returns c =

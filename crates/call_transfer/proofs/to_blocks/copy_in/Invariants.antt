@@ -1,14 +1,9 @@
 -- `copy_in` copies part by part, and walks the chain once.
-use Prim.Native.Nat.{◌+◌, ◌*◌, ◌-◌, ◌%◌, ◌≤◌}
-use mathlib.Core.Path.{◌≡◌, refl, ap, ◌∙◌}
-use native.Mathlib.Omega.{arith}
-use lib.ListN.{get_or, length}
-use Rattle.layout.specs.Layout as Layout
-use Rattle.call_steps.specs.Copies.{laid, copied}
-use Rattle.call_transfer.specs.Runs.{cell_of, copied_in}
-use Rattle.call_steps.proofs.Laid.{laid-length}
-use Rattle.call_transfer.proofs.Copying.{Walking, walk-blocked, walk-starts, walk_block, part-cell, walk-on, laid_more}
-use borrow.Author.Rules.{rules}
+use Prim.Native.Nat.{◌-◌}
+use mathlib.Core.Path.{◌≡◌}
+use lib.ListN.{length}
+use Rattle.call_transfer.specs.Runs.{copied_in}
+use Rattle.call_transfer.proofs.Copying.{Walking}
 use Rattle.call_transfer.proofs.to_blocks.copy_in.Given as goal
 
 abbrev pub invariant-loop-i : goal.invariant-loop-i

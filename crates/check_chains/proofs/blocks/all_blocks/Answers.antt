@@ -9,8 +9,8 @@ use Rattle.check_chains.proofs.blocks.all_blocks.Goals as goal
 pub loop-o-init : goal.loop-o-init
 loop-o-init c = (omega arith, going_start c.requires.marks)
 
-pub one_blocks-ok-requires : goal.one_blocks-ok-requires
-one_blocks-ok-requires c =
+pub one_blocks-requires : goal.one_blocks-requires
+one_blocks-requires c =
     record {
       low = c.loop-o-test.true;
       high = c.loop-o.invariant.0;
@@ -24,14 +24,14 @@ loop-o-preserved c =
       omega (arith, now.invariant.0),
       going_on now.invariant.1
           (each-made (BlocksOf _) (λ xs k. times k xs) now.o c.loop-o-test.true)
-          c.one_blocks-ok.auto.seen (rw c.if-ok.true at c.one_blocks-ok.ensures),
+          c.one_blocks.auto.seen (rw c.if-not-one_blocks.false at c.one_blocks.ensures),
     )
 
-pub returns-else-ok : goal.returns-else-ok
-returns-else-ok c =
+pub returns-then-not-one_blocks : goal.returns-then-not-one_blocks
+returns-then-not-one_blocks c =
     let now = c.loop-o in
     going-broken now.invariant.1 (each-made (BlocksOf _) (λ xs k. times k xs) now.o c.loop-o-test.true)
-    (rw c.if-ok.false at c.one_blocks-ok.ensures)
+    (rw c.if-not-one_blocks.true at c.one_blocks.ensures)
 
 pub returns : goal.returns
 returns c =

@@ -6,6 +6,3 @@ use Rattle.check_chains.proofs.blocks.all_blocks.Given as goal
 
 abbrev pub invariant-loop-o : goal.invariant-loop-o
 invariant-loop-o l = (l.o ≤ 64) × Going 512 (blocks_of_all l.links l.o) l.seen (blocks_of_all l.links 64) l.initial.seen
-
-abbrev pub decreases-loop-o : goal.decreases-loop-o
-decreases-loop-o l = l.o

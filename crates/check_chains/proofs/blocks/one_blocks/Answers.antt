@@ -10,4 +10,4 @@ returns-then-master-eq0 c =
 pub returns : goal.returns
 returns c =
     blocks-live c.args.links.now c.args.o c.requires.low c.requires.high _ _
-    c.if-master-eq0.false c.slot-first.ensures c.need-many.ensures c.counted.ensures
+    c.if-master-eq0.false c.from-first.ensures c.need-many.ensures c.counted.ensures

@@ -38,7 +38,7 @@ loop-j-preserved c =
     let now = c.loop-j in
     let some : 1 ≤ now.left = omega (arith, c.if-left-eq0.false) in
     walk-on _ _ _ (long-steps now.left now.j) now.invariant c.loop-j-test.true _
-    c.if-n-j.false c.if-mark-ne0.false some c.slot-j.ensures
+    c.if-n-j.false c.if-mark-ne0.false some c.from-j.ensures
 
 pub returns : goal.returns
 returns c =

@@ -24,7 +24,7 @@ loop-j-smaller c = visit-falls c.loop-j.invariant.marks c.if-n-j.false c.if-mark
 pub loop-j-preserved : goal.loop-j-preserved
 loop-j-preserved c =
     walk-on _ _ _ (any-steps _) c.loop-j.invariant c.loop-j-test.true _
-    c.if-n-j.false c.if-mark-ne0.false tt c.slot-j.ensures
+    c.if-n-j.false c.if-mark-ne0.false tt c.from-j.ensures
 
 pub returns : goal.returns
 returns c =

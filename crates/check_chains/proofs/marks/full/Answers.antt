@@ -11,9 +11,6 @@ loop-k-init c = down-start _ _
 pub bounds-seen-k : goal.bounds-seen-k
 bounds-seen-k c = omega arith
 
-pub overflow_sub-k : goal.overflow_sub-k
-overflow_sub-k c = omega arith
-
 pub loop-k-smaller : goal.loop-k-smaller
 loop-k-smaller c = omega arith
 

@@ -6,4 +6,4 @@ use Rattle.check_objects.proofs.names.place_of.Goals as goal
 
 pub returns : goal.returns
 unfolding name_place
-returns c = (refl, omega arith)
+returns c = (rw (c.from.ensures, c.from-2.ensures) refl, omega arith)

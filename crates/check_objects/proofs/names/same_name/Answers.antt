@@ -3,18 +3,18 @@ use native.Mathlib.Omega.{arith}
 use Rattle.layout.proofs.Deciding.{no-it, as-well, differs}
 use Rattle.check_objects.proofs.names.same_name.Goals as goal
 
-pub returns-then-link : goal.returns-then-link
-returns-then-link c = no-it (λ h. omega (arith, c.if-link.true, h.serial))
+pub returns-then-field : goal.returns-then-field
+returns-then-field c = no-it (λ h. omega (arith, c.if-field.true, h.serial))
 
-pub returns-then-byte : goal.returns-then-byte
-returns-then-byte c = no-it (λ h. omega (arith, c.if-byte.true, h.volume))
+pub returns-then-field-2 : goal.returns-then-field-2
+returns-then-field-2 c = no-it (λ h. omega (arith, c.if-field-2.true, h.volume))
 
-pub returns-then-link-eq0 : goal.returns-then-link-eq0
-returns-then-link-eq0 c = no-it (λ h. h.here (omega arith))
+pub returns-then-field-eq0 : goal.returns-then-field-eq0
+returns-then-field-eq0 c = no-it (λ h. h.here (omega arith))
 
 pub returns : goal.returns
 returns c =
-    as-well (differs c.link-4.result 0)
+    as-well (differs c.field-6.result 0)
     (λ e. record {
       here = λ z. omega arith;
       there = λ z. e (omega arith);

@@ -8,8 +8,8 @@ use Rattle.check_trees.proofs.caps.all_trees.Goals as goal
 pub loop-o-init : goal.loop-o-init
 loop-o-init c = (omega arith, going_start c.requires.marks)
 
-pub one_tree-ok-requires : goal.one_tree-ok-requires
-one_tree-ok-requires c =
+pub one_tree-requires : goal.one_tree-requires
+one_tree-requires c =
     record {
       low = c.loop-o-test.true;
       high = c.loop-o.invariant.0;
@@ -23,14 +23,14 @@ loop-o-preserved c =
       omega (arith, now.invariant.0),
       going_on now.invariant.1
           (each-made (TreeOf _) (λ F k. count k F) now.o c.loop-o-test.true)
-          c.one_tree-ok.auto.seen (rw c.if-ok.true at c.one_tree-ok.ensures),
+          c.one_tree.auto.seen (rw c.if-not-one_tree.false at c.one_tree.ensures),
     )
 
-pub returns-else-ok : goal.returns-else-ok
-returns-else-ok c =
+pub returns-then-not-one_tree : goal.returns-then-not-one_tree
+returns-then-not-one_tree c =
     let now = c.loop-o in
     going-broken now.invariant.1 (each-made (TreeOf _) (λ F k. count k F) now.o c.loop-o-test.true)
-    (rw c.if-ok.false at c.one_tree-ok.ensures)
+    (rw c.if-not-one_tree.true at c.one_tree.ensures)
 
 pub returns : goal.returns
 returns c =

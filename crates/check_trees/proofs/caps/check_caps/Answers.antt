@@ -5,31 +5,31 @@ use Rattle.check_chains.proofs.Covers.{blank, in-with, covers-first, covers-seco
 use Rattle.check_trees.proofs.CapTrees.{trees-inside, caps-decided}
 use Rattle.check_trees.proofs.caps.check_caps.Goals as goal
 
-pub walk_free-ok-requires : goal.walk_free-ok-requires
-walk_free-ok-requires c = record { room = omega arith; row_room = omega arith; blank = blank 512 }
+pub walk_free-requires : goal.walk_free-requires
+walk_free-requires c = record { room = omega arith; row_room = omega arith; blank = blank 512 }
 
-pub all_trees-good-requires : goal.all_trees-good-requires
-all_trees-good-requires c =
-    let call = c.walk_free-ok in
-    let found = rw c.if-ok.true at call.ensures in
+pub all_trees-requires : goal.all_trees-requires
+all_trees-requires c =
+    let call = c.walk_free in
+    let found = rw c.if-not-walk_free.false at call.ensures in
     record {
       links = omega arith;
       marks = marks-after (marks-blank (blank 512)) call.auto.seen found;
     }
 
-pub returns-then-good : goal.returns-then-good
-returns-then-good c =
+pub returns-then-all_trees : goal.returns-then-all_trees
+returns-then-all_trees c =
     caps-decided _ (covers-full (in-with _ _ _ _) (trees-inside _) (blank 512)
-    (rw (c.slot-head.ensures, c.if-ok.true) at c.walk_free-ok.ensures)
-    (rw c.if-good.true at c.all_trees-good.ensures) c.full.ensures)
+    (rw (c.from-head.ensures, c.if-not-walk_free.false) at c.walk_free.ensures)
+    (rw c.if-all_trees.true at c.all_trees.ensures) c.full.ensures)
 
-pub returns-else-good : goal.returns-else-good
-returns-else-good c =
-    caps-decided _ (covers-second (in-with _ _ _ _) (trees-inside _) (blank 512)
-    (rw (c.slot-head.ensures, c.if-ok.true) at c.walk_free-ok.ensures)
-    (rw c.if-good.false at c.all_trees-good.ensures))
+pub returns-else-all_trees : goal.returns-else-all_trees
+returns-else-all_trees c =
+    rw c.if-all_trees.false (caps-decided _ (covers-second (in-with _ _ _ _) (trees-inside _) (blank 512)
+    (rw (c.from-head.ensures, c.if-not-walk_free.false) at c.walk_free.ensures)
+    (rw c.if-all_trees.false at c.all_trees.ensures)))
 
-pub returns-else-ok : goal.returns-else-ok
-returns-else-ok c =
+pub returns-then-not-walk_free : goal.returns-then-not-walk_free
+returns-then-not-walk_free c =
     caps-decided _ (covers-first (in-with _ _ _ _) (trees-inside _) (blank 512)
-    (rw (c.slot-head.ensures, c.if-ok.false) at c.walk_free-ok.ensures))
+    (rw (c.from-head.ensures, c.if-not-walk_free.true) at c.walk_free.ensures))

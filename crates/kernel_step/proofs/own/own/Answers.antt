@@ -1,9 +1,8 @@
 -- `own` is the run of the call that the number chooses, arm by arm.
 use mathlib.Core.Path.{refl, ap}
-use borrow.Author.Rules.{rules}
 use Rattle.rules.specs.Rights.{op, asked}
 use Rattle.call_steps.specs.Request.{call_of}
-use Rattle.kernel_step.specs.Slices.{Slices, slices}
+use Rattle.kernel_step.specs.Slices.{slices}
 use Rattle.kernel_step.specs.Own.{own_run}
 use Rattle.kernel_step.specs.Ends.{clears}
 use Rattle.kernel_step.proofs.Asked.{no_other, make-asked, read_asked, write-asked, info-asked, derive-asked}

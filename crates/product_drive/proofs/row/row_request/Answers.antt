@@ -2,7 +2,6 @@
 use Prim.Native.Nat.{◌+◌, ◌-◌, ◌*◌, ◌≤◌}
 use mathlib.Core.Path.{ap, ◌∙◌}
 use native.Mathlib.Omega.{arith}
-use borrow.Author.Rules.{rules}
 use Rattle.call_steps.specs.Request.{read_request}
 use Rattle.product_drive.specs.Drive.{row_of}
 use Rattle.product_drive.proofs.Ranges.{placed}

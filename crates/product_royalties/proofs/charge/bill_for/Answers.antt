@@ -1,5 +1,4 @@
 -- `bill_for` is the difference of two charges.
-use borrow.Author.Rules.{rules}
 use Rattle.product_royalties.specs.Charge.{bill_for}
 use Rattle.product_royalties.proofs.Charging.{charge-grows}
 use Rattle.product_royalties.proofs.charge.bill_for.Goals as goal

@@ -2,7 +2,6 @@
 use mathlib.Core.Path.{ap}
 use Prim.Native.Nat.{◌/◌}
 use native.Mathlib.Omega.{arith}
-use borrow.Author.Rules.{rules}
 use Rattle.product_royalties.specs.Charge.{credit, charge}
 use Rattle.product_royalties.proofs.Charging.{charge-most}
 use Rattle.product_royalties.proofs.charge.charge.Goals as goal

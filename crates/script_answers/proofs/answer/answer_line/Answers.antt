@@ -2,7 +2,6 @@
 use native.Mathlib.Omega.{arith}
 use Rattle.script_text.proofs.Numerals.{long-length}
 use Rattle.script_answers.proofs.Gathering.{line-pushed}
-use borrow.Author.Rules.{rules}
 use Rattle.script_answers.proofs.answer.answer_line.Goals as goal
 
 pub put_digits-p-requires : goal.put_digits-p-requires
@@ -11,8 +10,8 @@ put_digits-p-requires c = omega (arith, long-length c.args.line (omega arith))
 pub push_answer-q-requires : goal.push_answer-q-requires
 push_answer-q-requires c =
     record {
-      fact_1 = c.requires.fact_1;
-      fact_2 = omega (arith, c.put_digits-p.ensures.end, long-length c.args.line (omega arith), c.put_digits-p.auto.out, c.requires.fact_2);
+      counted = c.requires.counted;
+      room = omega (arith, c.put_digits-p.ensures.end, long-length c.args.line (omega arith), c.put_digits-p.auto.out, c.requires.room);
     }
 
 pub put_byte-requires : goal.put_byte-requires
@@ -24,7 +23,7 @@ put_byte-requires c =
       c.put_digits-p.ensures.end,
       c.put_digits-p.auto.out,
       long-length c.args.line (omega arith),
-      c.requires.fact_2,
+      c.requires.room,
     )
 
 pub returns : goal.returns

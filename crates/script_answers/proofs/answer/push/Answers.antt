@@ -1,6 +1,5 @@
 -- `push` writes a space and the number.
 use Rattle.script_answers.proofs.Gathering.{pushed-one}
-use borrow.Author.Rules.{rules}
 use Rattle.script_answers.proofs.answer.push.Goals as goal
 
 pub returns : goal.returns

@@ -1,12 +1,6 @@
 -- `push_bytes` writes byte after byte.
-use Prim.Native.Nat.{◌-◌, ◌≤◌}
-use native.Mathlib.Omega.{arith}
-use Rattle.script_answers.proofs.Gathering.{Pushing, pushing-none, pushing-more, pushing-all}
-use borrow.Author.Rules.{rules}
+use Rattle.script_answers.proofs.Gathering.{Pushing}
 use Rattle.script_answers.proofs.answer.push_bytes.Given as goal
 
-abbrev pub invariant-loop-i : goal.invariant-loop-i
-invariant-loop-i l = Pushing l.initial.out l.at l.bytes l.out l.p l.i × (l.i ≤ l.count)
-
-abbrev pub decreases-loop-i : goal.decreases-loop-i
-decreases-loop-i l = l.count - l.i
+abbrev pub invariant-loop-byte : goal.invariant-loop-byte
+invariant-loop-byte l = Pushing l.initial.out l.at l.bytes l.out l.p l.byte-index

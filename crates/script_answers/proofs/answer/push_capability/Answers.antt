@@ -1,7 +1,6 @@
 -- `push_capability` stores name and password.
 use Rattle.rules.specs.Script.{written}
 use Rattle.script_answers.proofs.Gathering.{pushed_then}
-use borrow.Author.Rules.{rules}
 use Rattle.script_answers.proofs.answer.push_capability.Goals as goal
 
 pub returns : goal.returns

@@ -1,6 +1,5 @@
 -- `push_message` stores the sum and the bytes.
 use Rattle.script_answers.proofs.Gathering.{pushed_then}
-use borrow.Author.Rules.{rules}
 use Rattle.script_answers.proofs.answer.push_message.Goals as goal
 
 pub returns : goal.returns

@@ -9,7 +9,6 @@ use Rattle.call_steps.specs.Request.{answer_of}
 use Rattle.script_answers.specs.Pushed.{Pushed}
 use Rattle.script_answers.proofs.Results.{other-results}
 use Rattle.script_answers.proofs.Gathering.{results-as, pushed_none}
-use borrow.Author.Rules.{rules}
 use Rattle.script_answers.proofs.answer.push_results.Goals as goal
 
 pub returns-in-1 : goal.returns-in-1

@@ -1,6 +1,5 @@
 -- `push_two` stores one after the other.
 use Rattle.script_answers.proofs.Gathering.{pushed_then}
-use borrow.Author.Rules.{rules}
 use Rattle.script_answers.proofs.answer.push_two.Goals as goal
 
 pub returns : goal.returns

@@ -1,33 +1,20 @@
 -- `all_masters` has added up the moneywords of the slots that it passed.
-use Prim.Native.Nat.{ℕ}
-use mathlib.Core.List.{List, []}
+use mathlib.Core.List.{[]}
 use native.Mathlib.Omega.{arith}
-use borrow.Author.Rules.{rules}
-use Rattle.layout.specs.View.{view}
-use Rattle.check_money.specs.Amount.{master_money}
-use Rattle.layout.proofs.Adding.{Added, added_none, added_more}
+use Rattle.layout.proofs.Adding.{added_none, added_more}
 use Rattle.check_money.proofs.Living.{masters-added}
 use Rattle.script_answers.proofs.ends.all_masters.Goals as goal
 
 pub loop-i-init : goal.loop-i-init
 loop-i-init c = λ b. added_none _ _ _
 
-pub money_at-requires : goal.money_at-requires
-money_at-requires c = c.requires
-
 pub overflow_add-total : goal.overflow_add-total
-overflow_add-total c = omega (arith, (c.loop-i.invariant []).small, (c.loop-i.invariant []).high)
-
-pub overflow_sub-i : goal.overflow_sub-i
-overflow_sub-i c = omega arith
-
-pub loop-i-smaller : goal.loop-i-smaller
-loop-i-smaller c = omega arith
+overflow_add-total c = omega (arith, c.from-total.ensures, (c.loop-i.invariant []).small, (c.loop-i.invariant []).high)
 
 pub loop-i-preserved : goal.loop-i-preserved
 loop-i-preserved c =
     λ b.
-    added_more _ _ _ _ _ _ (omega arith) (c.money_at.ensures b) (omega arith) (c.loop-i.invariant b)
+    added_more _ _ _ _ _ _ (omega arith) (omega (arith, c.from-total.ensures, c.money_at.ensures b)) (omega arith) (c.loop-i.invariant b)
 
 pub returns : goal.returns
-returns c = λ b. masters-added _ _ _ _ _ c.loop-i-test.false (c.loop-i.invariant b)
+returns c = λ b. masters-added _ _ _ _ _ (omega arith) (c.loop-i.invariant b)

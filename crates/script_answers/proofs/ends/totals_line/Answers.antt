@@ -1,10 +1,8 @@
 -- `totals_line` writes the four totals, of which none is above the money total.
 use mathlib.Core.Path.{refl}
 use native.Mathlib.Omega.{arith}
-use Rattle.rules.specs.Store.{State}
 use Rattle.layout.specs.View.{view}
 use Rattle.script_answers.proofs.Totals.{Parts, parts, totals-put}
-use borrow.Author.Rules.{rules}
 use Rattle.script_answers.proofs.ends.totals_line.Goals as goal
 use Rattle.script_answers.proofs.ends.totals_line.Goals.{Start}
 

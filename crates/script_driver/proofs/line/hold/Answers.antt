@@ -4,5 +4,5 @@ use Rattle.script_driver.proofs.line.hold.Goals as goal
 
 pub returns : goal.returns
 returns c =
-    hold-is c.args.held.now c.args.part.now _ _ _ _ c.requires.size c.requires.few c.fewer-n.ensures
+    hold-is c.args.held.now c.args.part.now _ _ _ _ c.requires.size c.requires.few c.min-n.ensures
     c.copy_from_slice.ensures.after

@@ -1,10 +1,6 @@
 -- `are_bytes` has passed bytes alone.
-use Prim.Native.Nat.{◌-◌}
-use mathlib.Core.Path.{◌≡◌, refl, sym, ◌∙◌}
+use mathlib.Core.Path.{refl, sym, ◌∙◌}
 use native.Mathlib.Omega.{arith}
-use borrow.Author.Rules.{rules}
-use lib.ListN.{length, drop}
-use Rattle.rules.specs.Script.{are_bytes}
 use Rattle.script_lines.proofs.Bytes.{bytes-more, bytes-stop, bytes-end}
 use Rattle.script_lines.proofs.fits.are_bytes.Goals as goal
 

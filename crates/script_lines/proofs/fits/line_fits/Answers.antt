@@ -2,12 +2,10 @@
 use mathlib.Core.Path.{sym, ap, ◌∙◌}
 use Rattle.rules.specs.Rights.{Op}
 use Rattle.rules.specs.Fields.{text}
-use Rattle.rules.proofs.Tests.{not-is-true, not-is-false}
 use Rattle.script_lines.specs.Table as Table
 use Rattle.script_lines.specs.Lacking.{lacking}
 use Rattle.script_lines.proofs.Rows.{of_number, place_in, length-in}
 use Rattle.script_lines.proofs.Calls.{call-is, fits_not, fits-exactly, fits-or-more}
-use borrow.Author.Rules.{rules}
 use Rattle.script_lines.proofs.fits.line_fits.Goals as goal
 
 pub returns-then-not-is_call : goal.returns-then-not-is_call
@@ -22,10 +20,10 @@ returns-then-text-eq0 c =
     let k = of_number c.column-call.ensures c.nth-number.ensures in
     fits-exactly _ l _ _ _
     (call-is l _ _ _ c.nth-number.ensures c.is_call.ensures c.if-not-is_call.false)
-    (c.wide-text.ensures ∙ place_in text _ _ k)
+    (c.from-text.ensures ∙ place_in text _ _ k)
     c.if-text-eq0.true
-    (c.wide.ensures ∙ c.lacking.ensures ∙ ap (λ (o : Op). lacking o l) k.1)
-    (c.wide-then-text-eq0.ensures ∙ length-in _ _ k)
+    (c.from.ensures ∙ c.lacking.ensures ∙ ap (λ (o : Op). lacking o l) k.1)
+    (c.from-then-text-eq0.ensures ∙ length-in _ _ k)
 
 pub returns : goal.returns
 unfolding Table.computes
@@ -34,4 +32,4 @@ returns c =
     let k = of_number c.column-call.ensures c.nth-number.ensures in
     fits-or-more _ l _ _
     (call-is l _ _ _ c.nth-number.ensures c.is_call.ensures c.if-not-is_call.false)
-    (c.wide-text.ensures ∙ place_in text _ _ k) c.if-text-eq0.false c.ends_in_bytes.ensures
+    (c.from-text.ensures ∙ place_in text _ _ k) c.if-text-eq0.false c.ends_in_bytes.ensures

@@ -1,6 +1,5 @@
 -- `number_after` looks as many places before as are lacking.
 use Rattle.script_lines.proofs.Calls.{after-absent}
-use borrow.Author.Rules.{rules}
 use Rattle.script_lines.proofs.request.number_after.Goals as goal
 
 pub returns-then-place-lacking : goal.returns-then-place-lacking

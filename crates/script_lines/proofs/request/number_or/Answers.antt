@@ -1,6 +1,5 @@
 -- `number_or` gives the default where the number is lacking.
 use Rattle.script_lines.proofs.Calls.{or-default, or-had}
-use borrow.Author.Rules.{rules}
 use Rattle.script_lines.proofs.request.number_or.Goals as goal
 
 pub returns-then-lacks : goal.returns-then-lacks

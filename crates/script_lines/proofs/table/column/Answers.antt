@@ -1,7 +1,6 @@
 -- `column` keeps the numbers of calls.
 use mathlib.Core.Path.{sym}
 use native.Mathlib.Omega.{arith}
-use borrow.Author.Rules.{rules}
 use Rattle.rules.specs.Rights.{op}
 use Rattle.script_lines.proofs.Rows.{past}
 use Rattle.script_lines.proofs.table.column.Goals as goal

@@ -1,10 +1,7 @@
 -- `copy_bytes` copies number after number, each a byte.
-use Prim.Native.Nat.{◌-◌}
 use native.Mathlib.Omega.{arith}
-use borrow.Author.Rules.{rules}
-use lib.ListN.{length}
 use Rattle.script_lines.proofs.Bytes.{bytes-from}
-use Rattle.script_lines.proofs.Gathering.{Copying, copying-none, copying-more, copying-all}
+use Rattle.script_lines.proofs.Gathering.{copying-none, copying-more, copying-all}
 use Rattle.script_lines.proofs.text.copy_bytes.Goals as goal
 
 pub loop-i-init : goal.loop-i-init

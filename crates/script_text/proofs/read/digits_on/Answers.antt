@@ -13,10 +13,7 @@ extended : (c : Then-extends) → Extends c.loop-i.value
 extended c = extending _ _ (sym c.extends.ensures ∙ c.if-extends.true)
 
 pub loop-i-init : goal.loop-i-init
-loop-i-init c = (on_none _ _ _ c.requires.fact_1 c.requires.fact_2.1, c.requires.fact_2.0)
-
-pub bounds-line-i : goal.bounds-line-i
-bounds-line-i c = omega arith
+loop-i-init c = (on_none _ _ _ c.requires.place c.requires.first.1, c.requires.first.0)
 
 pub extends-requires : goal.extends-requires
 extends-requires c = (c.loop-i.invariant.1, c.loop-i.invariant.0.fits)
@@ -32,12 +29,6 @@ overflow_cast-value c = omega (arith, (extended (goal.at.overflow_cast-value c).
 
 pub overflow_add-value : goal.overflow_add-value
 overflow_add-value c = omega (arith, (extended (goal.at.overflow_add-value c).Then-extends).fits)
-
-pub overflow_add-i : goal.overflow_add-i
-overflow_add-i c = omega arith
-
-pub loop-i-smaller : goal.loop-i-smaller
-loop-i-smaller c = omega arith
 
 pub loop-i-preserved : goal.loop-i-preserved
 loop-i-preserved c =

@@ -1,13 +1,10 @@
--- `play_window` has played the lines before place `from`.
-use Prim.Native.Nat.{◌-◌}
-use mathlib.Core.Path.{◌≡◌}
-use lib.ListN.{length}
-use Rattle.script_driver.specs.Parts.{store}
+-- `play_window` has played the lines before those that are left.
+use Rattle.script_play.specs.Workspace.{StaysLent}
 use Rattle.sheet.proofs.Going.{Going}
 use Rattle.sheet.proofs.lines.play_window.Given as goal
 
-abbrev pub invariant-loop-from : goal.invariant-loop-from
-invariant-loop-from l = Going (store l.bytes l.links l.words) l.held l.numbers l.text l.buffer l.scratch l.window l.initial.stand.run l.stand.run l.from × (length l.out ≡ length l.initial.out)
-
-abbrev pub decreases-loop-from : goal.decreases-loop-from
-decreases-loop-from l = length l.window - l.from
+abbrev pub invariant-loop-line : goal.invariant-loop-line
+invariant-loop-line l = record {
+  going : Going l.room l.held l.window l.initial.run l.run l.line-iterator.rest.now;
+  lent : StaysLent l.initial.room l.room;
+}

@@ -1,5 +1,4 @@
 -- Each way has its own test of the moneyword.
-use borrow.Author.Rules.{rules}
 use Rattle.call_purse.specs.Climb.{stops}
 use Rattle.call_purse.proofs.way.Way.stops.Goals as goal
 

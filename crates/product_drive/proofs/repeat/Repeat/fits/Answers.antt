@@ -1,11 +1,7 @@
 -- `fits` tests the repeat, then the place.
 use mathlib.Core.Path.{sym, ◌∙◌}
-use borrow.Author.Rules.{rules}
 use Rattle.product_drive.specs.Drive.{fits}
 use Rattle.product_drive.proofs.repeat.Repeat.fits.Goals as goal
-
-pub has-requires : goal.has-requires
-has-requires c = sym c.in_range.ensures ∙ c.if-in_range.true
 
 pub returns-then-in_range : goal.returns-then-in_range
 unfolding fits
@@ -13,4 +9,4 @@ returns-then-in_range c = rw (c.has.ensures, sym c.in_range.ensures ∙ c.if-in_
 
 pub returns-else-in_range : goal.returns-else-in_range
 unfolding fits
-returns-else-in_range c = rw (sym c.in_range.ensures ∙ c.if-in_range.false)
+returns-else-in_range c = rw (sym c.in_range.ensures ∙ c.if-in_range.false) c.if-in_range.false

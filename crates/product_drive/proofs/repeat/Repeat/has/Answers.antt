@@ -1,32 +1,34 @@
 -- `has` tests the next pick, then the steps so far.
+use mathlib.Core.Path.{◌≡◌, sym, ap₂, ◌∙◌}
+use mathlib.Core.Bool.{◌&&◌}
 use native.Mathlib.Omega.{arith}
-use borrow.Author.Rules.{rules}
-use borrow.Author.Tests.{lt-leb, le-leb}
+use lib.Dec.{leb}
+use borrow.Author.Tests.{leb-true}
+use Rattle.rules.proofs.Tests.{all2}
 use Rattle.product_drive.specs.Drive.{place_fits}
-use Rattle.product_drive.proofs.Ranges.{in-range}
+use Rattle.product_drive.proofs.Ranges.{within-end, in-range}
 use Rattle.product_drive.proofs.repeat.Repeat.has.Goals as goal
+use Rattle.product_drive.proofs.repeat.Repeat.has.Goals.{After-contains}
 
-pub returns-then-place-eq0 : goal.returns-then-place-eq0
-unfolding place_fits
-returns-then-place-eq0 c = rw (lt-leb 1 c.args.place.next (omega (arith, c.if-place-eq0.true)))
-
-pub returns-then-place-self : goal.returns-then-place-self
-unfolding place_fits
-returns-then-place-self c =
-    let a = c.args in
-    rw (le-leb 1 a.place.next (omega (arith, c.if-place-eq0.false)), lt-leb a.place.next a.self.picks c.if-place-self.true)
+within : (c : After-contains) → c.contains.result ≡ (leb 1 c.args.place.next && leb c.args.place.next c.args.self.picks)
+within c =
+    rw (c.contains.ensures.value, c.new.ensures.exhausted, c.new.ensures.start, c.new.ensures.end)
+    (ap₂ ◌&&◌ (within-end 1 c.args.place.next) (within-end c.args.place.next c.args.self.picks))
 
 pub up_to-requires : goal.up_to-requires
 up_to-requires c =
+    let d = c.args.place in
     let r = in-range c.args.self c.requires in
-    record { some = r.some; picks = r.picks; counts = r.counts; high = omega (arith, c.if-place-self.false) }
+    let h = leb-true d.next c.args.self.picks
+    (all2 (leb 1 d.next) (leb d.next c.args.self.picks) (sym (within (goal.at.up_to-requires c).After-contains) ∙ c.if-contains.true)).1 in
+    record { some = r.some; picks = r.picks; counts = r.counts; high = omega (arith, h) }
 
-pub returns : goal.returns
+pub returns-then-contains : goal.returns-then-contains
 unfolding place_fits
-returns c =
-    let a = c.args in
-    rw (
-      c.up_to.ensures,
-      le-leb 1 a.place.next (omega (arith, c.if-place-eq0.false)),
-      le-leb a.place.next a.self.picks c.if-place-self.false,
-    )
+returns-then-contains c =
+    rw (sym (within (goal.at.returns-then-contains c).After-contains) ∙ c.if-contains.true, c.up_to.ensures)
+
+pub returns-else-contains : goal.returns-else-contains
+unfolding place_fits
+returns-else-contains c =
+    rw (sym (within (goal.at.returns-else-contains c).After-contains) ∙ c.if-contains.false) c.if-contains.false

@@ -2,7 +2,6 @@
 use Prim.Native.Nat.{◌+◌}
 use mathlib.Core.Path.{sym, ap, ◌∙◌}
 use native.Mathlib.Omega.{arith}
-use borrow.Author.Rules.{rules}
 use Rattle.product_drive.proofs.Ranges.{ranges, placed, at_next}
 use Rattle.product_drive.proofs.Outcomes.{after_last, after-other}
 use Rattle.product_drive.proofs.repeat.Repeat.place_after.Goals as goal

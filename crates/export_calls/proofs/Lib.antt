@@ -1,2 +1,0 @@
--- Calls by numbers.
-pub mod Making

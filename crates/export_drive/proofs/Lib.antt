@@ -1,2 +1,0 @@
--- Picks by numbers.
-pub mod Making

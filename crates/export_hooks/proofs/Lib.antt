@@ -1,2 +1,0 @@
--- Calls by hook, by numbers.
-pub mod Making

@@ -1,2 +1,0 @@
--- The free questions by numbers.
-pub mod Making

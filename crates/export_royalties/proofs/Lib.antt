@@ -1,2 +1,0 @@
--- Bills by numbers.
-pub mod Making
