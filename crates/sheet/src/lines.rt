@@ -55,19 +55,18 @@ fn one_line(
     ensures lent { StaysLent room.old room.new }
 {
     let mut answer = [0u8; ANSWER];
-    let call = ending_call(begun.number, &held[..begun.count], window);
-    let before = match call {
-        Some(_) => Living::of(drawn(room)),
-        None => Living::nothing(),
+    let ending = match ending_call(begun.number, &held[..begun.count], window) {
+        Some(call) => Some((call, Living::of(drawn(room)))),
+        None => None,
     };
     let run = Run { at: 0, ..begun };
     let fed = feed(room, held, window, &mut answer, run);
-    if let Some(call) = call {
+    if let Some((call, before)) = &ending {
         let ended = Ended {
-            before: &before,
+            before,
             after: drawn(room),
             line: begun.number,
-            call,
+            call: *call,
         };
         // a failed write is passed over, and the run goes on
         let _ = write!(out, "{ended}");

@@ -79,10 +79,6 @@ impl fmt::Display for Noted {
 pub struct Living([Option<Noted>; SLOTS]);
 
 impl Living {
-    pub fn nothing() -> Living {
-        Living([None; SLOTS])
-    }
-
     pub fn of(store: Store<'_>) -> Living {
         Living(array::from_fn(|cap| Noted::of(store, cap)))
     }
