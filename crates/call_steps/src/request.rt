@@ -114,11 +114,11 @@ impl Request {
 // read as one, they would wait for the stores of both.
 #[derive(Clone, Copy, Debug, PartialEq, Eq)]
 pub struct Given {
-    pub count: u32,
+    pub sum: u32,
     pub length: u32,
     pub capability: Capability,
     pub moneyword: u32,
-    pub sum: u32,
+    pub count: u32,
 }
 
 // What a call gives, or its refusal.
@@ -126,11 +126,11 @@ pub type Reply = Result<Given, Refusal>;
 
 impl Given {
     const NOTHING: Given = Given {
-        count: 0,
+        sum: 0,
         length: 0,
         capability: Capability::NONE,
         moneyword: 0,
-        sum: 0,
+        count: 0,
     };
 
     // Nothing to tell.
