@@ -21,10 +21,11 @@ use Rattle.call_steps.proofs.Charging.{paid-view, paid-plain}
 use Rattle.call_steps.proofs.Holding.{found-held}
 use Rattle.call_enter.specs.declared.entry.Entered.{Entered}
 use Rattle.call_enter.specs.Entry.{Entry, refused, shown_slot, shown, entry}
-use Rattle.std.specs.Prelude.{Ok}
-use Rattle.call_enter.specs.Enters.{Enters}
+use Rattle.std.specs.Prelude.{Result}
+use Rattle.call_enter.specs.declared.entry.Stopped.{Stopped}
+use Rattle.call_enter.specs.Enters.{code_told, slots_told, entry_of}
 use Rattle.call_enter.specs.Begins.{Begins}
-use Rattle.call_enter.proofs.Entering.{slot-some, entered_is, entry-by}
+use Rattle.call_enter.proofs.Entering.{slot-some, entry-by}
 
 module _ {b l w : List ℕ} (P : Plain b l w) (c : Call) where
   abbrev s : State
@@ -70,5 +71,7 @@ module _ {b l w : List ℕ} (P : Plain b l w) (c : Call) where
   entry-begins = entry-by b l w c BeginsOf (λ nz z. absurd (nz z)) (λ e z. begins-paid e z)
 
   -- as the code has it
-  pub enter-begins : (r : Entered) (b' w' : List ℕ) → Enters (Ok r) b' w' (entry b l w c) → Begins b' l w' c r.me r.slot
-  enter-begins r b' w' E = subst BeginsOf (sym (entered_is r E)) entry-begins refl
+  pub enter-begins : (r : Result Entered Stopped) (b' w' : List ℕ) → entry_of r b' w' ≡ entry b l w c → code_told r ≡ 0
+      → Begins b' l w' c (slots_told r).me (slots_told r).slot
+  unfolding entry_of
+  enter-begins r _ _ q = subst BeginsOf (sym q) entry-begins

@@ -12,7 +12,7 @@ use Rattle.rules.specs.Rights.{Op, op, fee_of, asked, presents}
 use Rattle.rules.specs.Call.{Call, Capability}
 use Rattle.rules.specs.Code as Code
 use Rattle.rules.specs.Password.{presented}
-use Rattle.rules.specs.Refusals.{first, in_range, caller, running, early, presenting}
+use Rattle.rules.specs.Refusals.{first, in_range, caller, running, early, showing, presenting}
 use Rattle.rules.proofs.Ready.{presenting-some, presenting-none}
 use Rattle.rules.proofs.Tests.{by-eq, pick_yes, pick-not}
 use Rattle.layout.specs.View.{view}
@@ -21,12 +21,11 @@ use Rattle.call_steps.specs.Paying.{terminated_bytes, paid_words, Pays}
 use Rattle.call_steps.specs.Run.{Process}
 use Rattle.call_steps.proofs.Entering.{early-range, early-running, early-poor, early-none, running-process}
 use Rattle.call_steps.proofs.Charging.{poor-is, fee-plain}
-use Rattle.std.specs.Prelude.{Result, Ok, Err, IfOk}
+use Rattle.std.specs.Prelude.{Err}
 use Rattle.values.specs.declared.refusal.Refusal.{Refusal}
 use Rattle.values.specs.Refusals.{number_of}
-use Rattle.call_steps.specs.Admits.{Admits}
-use Rattle.call_enter.specs.declared.entry.Entered.{Entered}
-use Rattle.call_enter.specs.Enters.{Enters, Shows}
+use Rattle.call_enter.specs.declared.entry.Stopped.{Stopped}
+use Rattle.call_enter.specs.Enters.{untold, entry_of}
 use Rattle.call_enter.specs.Entry.{Entry, refused, shown_slot, shown, stopped_bytes, entered, entry}
 
 -- ---- 5, 19 and 6
@@ -40,70 +39,36 @@ module _ (s : State) (me : ℕ) (x : Capability) (o : Op) where
   unfolding shown_slot
   slot-none p = pick-not (presents o) (presented s me x) 0 p
 
--- as the code has it: r is what `admit` gives
+-- as the code has it: n and k are what `admit` gives
 module _ (b l w : List ℕ) (me : ℕ) (x : Capability) (o : Op) where
-  pub shows-some : presents o ≡ true → {r : Result ℕ Refusal} → Admits (view b l w) me x (asked o) r → Shows r (shown b l w me x o)
+  pub shown-some : presents o ≡ true → (n k : ℕ) → k ≡ presented (view b l w) me x
+      → n ≡ first (showing (view b l w) (presented (view b l w) me x) (asked o))
+      → record { code = n; me = me; slot = k; bytes = b; words = w } ≡ shown b l w me x o
   unfolding shown
-  shows-some p {r} A =
+  shown-some p n k e h =
       let s : State = view b l w in
       let slot : shown_slot s me x o ≡ presented s me x = slot-some s me x o p in
-      record {
-        code = A.code ∙ ap first (sym (presenting-some s (presented s me x) o p)) ∙ ap (λ i. first (presenting s i o)) (sym slot);
-        slot = told r A.slot (sym slot);
-      }
-    where
-      told : (r : Result ℕ Refusal) {i j : ℕ} → IfOk r (λ k. k ≡ i) → i ≡ j → IfOk r (λ k. k ≡ j)
-      told (Ok k) h e = h ∙ e
-      told (Err n) h e = tt
+      let code : n ≡ first (presenting s (shown_slot s me x o) o) =
+      h ∙ ap first (sym (presenting-some s (presented s me x) o p)) ∙ ap (λ i. first (presenting s i o)) (sym slot) in
+      λ d. record { code = code d; me = me; slot = (e ∙ sym slot) d; bytes = b; words = w }
 
-  pub shows-none : presents o ≡ false → Shows (Ok 0) (shown b l w me x o)
+  pub shown-none : presents o ≡ false
+      → record { code = Code.done; me = me; slot = 0; bytes = b; words = w } ≡ shown b l w me x o
   unfolding shown first
-  shows-none p =
+  shown-none p =
       let s : State = view b l w in
-      record {
-        code = ap first (sym (presenting-none s (shown_slot s me x o) o p));
-        slot = sym (slot-none s me x o p);
+      λ d. record {
+        code = ap first (sym (presenting-none s (shown_slot s me x o) o p)) d;
+        me = me;
+        slot = sym (slot-none s me x o p) d;
+        bytes = b;
+        words = w;
       }
 
--- ---- what `enter` gives, of an entry that is known
-
-module _ {b w : List ℕ} {x : Entry} where
-  -- 2, 3 or 4
-  pub enters-refused : (r : Refusal) → refused (number_of r) b w ≡ x → Enters (Err r) b w x
-  unfolding refused
-  enters-refused r e = record {
-    code = ap (λ (y : Entry). y.code) e;
-    me = tt;
-    slot = tt;
-    bytes = ap (λ (y : Entry). y.bytes) e;
-    words = ap (λ (y : Entry). y.words) e;
-  }
-
-  -- after the fee
-  module _ (l : List ℕ) (me : ℕ) (c : Capability) (o : Op) (e : shown b l w me c o ≡ x) where
-    pub enters-stopped : (r : Refusal) → Shows (Err r) (shown b l w me c o) → Enters (Err r) b w x
-    unfolding shown
-    enters-stopped r S = record {
-      code = S.code ∙ ap (λ (y : Entry). y.code) e;
-      me = tt;
-      slot = tt;
-      bytes = ap (λ (y : Entry). y.bytes) e;
-      words = ap (λ (y : Entry). y.words) e;
-    }
-
-    pub enters-on : (k : ℕ) → Shows (Ok k) (shown b l w me c o) → Enters (Ok (record { me = me; slot = k })) b w x
-    unfolding shown
-    enters-on k S = record {
-      code = S.code ∙ ap (λ (y : Entry). y.code) e;
-      me = ap (λ (y : Entry). y.me) e;
-      slot = S.slot ∙ ap (λ (y : Entry). y.slot) e;
-      bytes = ap (λ (y : Entry). y.bytes) e;
-      words = ap (λ (y : Entry). y.words) e;
-    }
-
-  -- as one record
-  pub entered_is : (r : Entered) → Enters (Ok r) b w x → record { code = Code.done; me = r.me; slot = r.slot; bytes = b; words = w } ≡ x
-  entered_is r E = λ d. record { code = E.code d; me = E.me d; slot = E.slot d; bytes = E.bytes d; words = E.words d }
+-- 2, 3 or 4
+pub told-refused : (r : Refusal) {x : Stopped} → x ≡ untold r → (b w : List ℕ) → entry_of (Err x) b w ≡ refused (number_of r) b w
+unfolding entry_of refused
+told-refused r e b w = ap (λ x. entry_of (Err x) b w) e
 
 -- ---- by what 2, 3 and 4 come to
 

@@ -19,12 +19,10 @@ use Rattle.call_steps.specs.Run.{Ran, over}
 use Rattle.call_steps.proofs.Meeting as Settled
 use Rattle.call_enter.specs.declared.entry.Entered.{Entered}
 use Rattle.call_enter.specs.Entry.{Entry, refused, shown_slot, shown, stopped_bytes, entry, OwnPart, goes_on_with, step_with}
-use Rattle.std.specs.Prelude.{Ok, Err}
-use Rattle.values.specs.declared.refusal.Refusal.{Refusal}
-use Rattle.values.specs.Refusals.{number_of}
-use Rattle.values.proofs.Numbers.{number-some}
-use Rattle.call_enter.specs.Enters.{Enters}
-use Rattle.call_enter.proofs.Entering.{entered_is, entry-by, enter-two}
+use Rattle.std.specs.Prelude.{Result}
+use Rattle.call_enter.specs.declared.entry.Stopped.{Stopped}
+use Rattle.call_enter.specs.Enters.{code_told, slots_told, entry_of}
+use Rattle.call_enter.proofs.Entering.{entry-by, enter-two}
 
 module _ (own : OwnPart) (l : List ℕ) (c : Call) where
   -- ---- after entering
@@ -41,19 +39,15 @@ module _ (own : OwnPart) (l : List ℕ) (c : Call) where
   begins e z = Settled.goes_on e.bytes l e.words (own_of e) z
 
   -- as the code has it
-  module _ (b w b' w' : List ℕ) where
-    pub step-stops : (r : Refusal) → Enters (Err r) b' w' (entry b l w c) → over (number_of r) b' l w' ≡ step_with own b l w c
-    unfolding step_with
-    step-stops r E =
-        (λ d. over (E.code d) (E.bytes d) l (E.words d))
-        ∙ stops (entry b l w c) (λ z. number-some r (E.code ∙ z))
+  module _ (b w : List ℕ) (r : Result Entered Stopped) (b' w' : List ℕ) (q : entry_of r b' w' ≡ entry b l w c) where
+    pub step-stops : code_told r ≢ 0 → over (code_told r) b' l w' ≡ step_with own b l w c
+    unfolding entry_of step_with
+    step-stops nz = stops (entry_of r b' w') nz ∙ ap (goes_on_with own l c) q
 
-    pub step-begins : (r : Entered) → Enters (Ok r) b' w' (entry b l w c)
-        → own b' l w' c r.me r.slot (op c.number) ≡ step_with own b l w c
-    unfolding step_with
-    step-begins r E =
-        begins (record { code = Code.done; me = r.me; slot = r.slot; bytes = b'; words = w' }) refl
-        ∙ ap (goes_on_with own l c) (entered_is r E)
+    pub step-begins : code_told r ≡ 0
+        → own b' l w' c (slots_told r).me (slots_told r).slot (op c.number) ≡ step_with own b l w c
+    unfolding entry_of step_with
+    step-begins z = begins (entry_of r b' w') z ∙ ap (goes_on_with own l c) q
 
   -- ---- the whole
 

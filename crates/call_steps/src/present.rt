@@ -50,6 +50,21 @@ pub fn expired(links: &[u16], k: usize) -> bool
     links[LAST_DAY + k] < links[DAY]
 }
 
+// A refusal, and the slot of the capability presented, 0 where none was found.
+#[derive(Clone, Copy, Debug, PartialEq, Eq)]
+pub struct Denied {
+    pub refusal: Refusal,
+    pub slot: usize,
+}
+
+impl From<Denied> for Refusal {
+    ghost from_gives = { λ d r. r ≡ d.refusal };
+
+    fn from(denied: Denied) -> Refusal {
+        denied.refusal
+    }
+}
+
 // The process in slot me presents a capability, of which the right is asked: its slot.
 pub fn admit(
     bytes: &[u8],
@@ -58,21 +73,30 @@ pub fn admit(
     me: usize,
     x: Capability,
     right: Rights,
-) -> Result<usize, Refusal>
+) -> Result<usize, Denied>
     requires plain { Plain bytes.now links.now words.now }
     requires process { Process bytes.now links.now me }
     ensures { Admits (view bytes.now links.now words.now) me
         (capability_of x) right.0 result }
 {
     let Some(k) = present(bytes, links, words, me, x) else {
-        return Err(Refusal::NotFound);
+        return Err(Denied {
+            refusal: Refusal::NotFound,
+            slot: 0,
+        });
     };
     if expired(links, k) {
-        return Err(Refusal::Expired);
+        return Err(Denied {
+            refusal: Refusal::Expired,
+            slot: k,
+        });
     }
     if right_held(links, k, right) {
         Ok(k)
     } else {
-        Err(Refusal::RightMissing)
+        Err(Denied {
+            refusal: Refusal::RightMissing,
+            slot: k,
+        })
     }
 }

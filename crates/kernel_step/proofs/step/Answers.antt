@@ -11,7 +11,7 @@ use Rattle.rules.specs.Rights.{day_number}
 use Rattle.rules.specs.Demand.{Words}
 use Rattle.layout.proofs.Plain.{plain}
 use Rattle.call_steps.specs.Request.{Reply, call_of}
-use Rattle.std.specs.Prelude.{Err}
+use Rattle.std.specs.Prelude.{Ok, Err}
 use Rattle.std.proofs.lemmas.Result.{err_from_is_err_and}
 use Rattle.values.proofs.Numbers.{number-some}
 use Rattle.call_steps.proofs.Replying.{refuses}
@@ -77,24 +77,24 @@ pub returns-in_err-e : goal.returns-in_err-e
 unfolding call_of
 returns-in_err-e c =
     let q = err_from_is_err_and _ c.from_residual.ensures.1 in
-    let r = c.in_err-e.field-0.0 in
-    subst (λ x. Stepped c.args.req c.args.text.now x (slices c.args.bytes.now c.args.links.now c.args.words.now c.args.buffer.now c.args.scratch.now)
+    let x = c.in_err-e.field-0.0 in
+    subst (λ r. Stepped c.args.req c.args.text.now r (slices c.args.bytes.now c.args.links.now c.args.words.now c.args.buffer.now c.args.scratch.now)
     (slices c.enter.new.bytes c.args.links.now c.enter.new.words c.args.buffer.now c.args.scratch.now))
     (sym (q.1 ∙ ap Err q.2))
-    (promised (goal.at.returns-in_err-e c).Start (ends-refused (number-some r) (refuses r)
+    (promised (goal.at.returns-in_err-e c).Start (ends-refused (number-some x.refusal) (refuses x.refusal)
     (step-stops own_run c.args.links.now (call_on c.args.req c.args.text.now (slices c.args.bytes.now c.args.links.now c.args.words.now c.args.buffer.now c.args.scratch.now)) c.args.bytes.now c.args.words.now
-    c.enter.new.bytes c.enter.new.words r (c.in_err-e.ensures c.args.text.now refl)
+    (Err x) c.enter.new.bytes c.enter.new.words (c.in_err-e.ensures c.args.text.now refl) (number-some x.refusal)
     ∙ sym (step-process c.args.bytes.now c.args.links.now c.args.words.now (call_on c.args.req c.args.text.now (slices c.args.bytes.now c.args.links.now c.args.words.now c.args.buffer.now c.args.scratch.now)) (process (goal.at.returns-in_err-e c).After-enter))) refl refl))
 
 pub own-requires : goal.own-requires
 own-requires c =
-    own-asks c.requires.shape (enter-begins (plain c.requires) (call_on c.args.req c.args.text.now (slices c.args.bytes.now c.args.links.now c.args.words.now c.args.buffer.now c.args.scratch.now)) c.in_ok-e.e c.enter.new.bytes
-    c.enter.new.words (c.in_ok-e.ensures c.args.text.now refl))
+    own-asks c.requires.shape (enter-begins (plain c.requires) (call_on c.args.req c.args.text.now (slices c.args.bytes.now c.args.links.now c.args.words.now c.args.buffer.now c.args.scratch.now)) (Ok c.in_ok-e.e) c.enter.new.bytes
+    c.enter.new.words (c.in_ok-e.ensures c.args.text.now refl) refl)
 
 pub returns : goal.returns
 unfolding call_of
 returns c =
     promised (goal.at.returns c).Start (ends_of c.own.ensures
     (step-begins own_run c.args.links.now (call_on c.args.req c.args.text.now (slices c.args.bytes.now c.args.links.now c.args.words.now c.args.buffer.now c.args.scratch.now)) c.args.bytes.now c.args.words.now
-    c.enter.new.bytes c.enter.new.words c.in_ok-e.e (c.in_ok-e.ensures c.args.text.now refl)
+    (Ok c.in_ok-e.e) c.enter.new.bytes c.enter.new.words (c.in_ok-e.ensures c.args.text.now refl) refl
     ∙ sym (step-process c.args.bytes.now c.args.links.now c.args.words.now (call_on c.args.req c.args.text.now (slices c.args.bytes.now c.args.links.now c.args.words.now c.args.buffer.now c.args.scratch.now)) (process (goal.at.returns c).After-enter))))

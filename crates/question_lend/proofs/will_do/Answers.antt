@@ -38,5 +38,5 @@ returns-in-Ok c =
 pub returns-in-Err : goal.returns-in-Err
 returns-in-Err c =
     let a = c.args in
-    not-shown (view a.bytes.now a.links.now a.words.now) a.me (wish_of a.x) (capability_of a.e) (number_of c.in-Err.field-0) _
-    refl c.in-Err.ensures.code (number-some c.in-Err.field-0)
+    not-shown (view a.bytes.now a.links.now a.words.now) a.me (wish_of a.x) (capability_of a.e) (number_of c.in-Err.field-0.refusal) _
+    refl c.in-Err.ensures.code (number-some c.in-Err.field-0.refusal)

@@ -74,7 +74,7 @@ returns-in_err-k c =
     let handed = err_from_is_err_and _ c.from_residual.ensures.1 in
     ap windowed_of (handed.1 ∙ ap Err handed.2)
     ∙ sym (asked-late (view a.bytes.now a.links.now a.words.now) (name_of a.caller) (capability_of a.x) (fit at.Else-not-name_fits-2)
-    c.in-Some.me (who at.In-Some) (runs at.Else-not-running) (number_of why) c.in_err-k.ensures.code (number-some why))
+    c.in-Some.me (who at.In-Some) (runs at.Else-not-running) (number_of why.refusal) c.in_err-k.ensures.code (number-some why.refusal))
 
 -- 5, 19 and 6 are not met
 held : (c : In_ok-k) → Held c.args.links.now c.in_ok-k.k

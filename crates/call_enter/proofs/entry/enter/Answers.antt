@@ -1,9 +1,8 @@
 -- `enter` is refused by 2, 3 or 4, or pays the fee and goes on to 5, 19 and 6.
 use Prim.Native.Nat.{ℕ}
-use mathlib.Core.Path.{◌≡◌, refl, sym, ap, ◌∙◌, subst}
+use mathlib.Core.Path.{◌≡◌, refl, sym, ap, ◌∙◌}
 use mathlib.Core.Bool.{true}
 use mathlib.Core.List.{List}
-use Rattle.std.specs.Prelude.{Err}
 use Rattle.std.proofs.lemmas.Result.{err_from_is_err_and}
 use Rattle.values.specs.declared.refusal.Refusal.TheVariants.{OutOfRange, NotRunning, CannotPay}
 use Rattle.rules.specs.Refusals.{caller, running}
@@ -14,9 +13,8 @@ use Rattle.call_steps.proofs.Finding.{slot_of, slot_none}
 use Rattle.call_steps.proofs.Callers.{found-high, process-zero, running-data}
 use Rattle.call_steps.proofs.Charging.{can-pay}
 use Rattle.call_steps.proofs.Entering.{running-process}
-use Rattle.call_enter.specs.Entry.{entry}
-use Rattle.call_enter.specs.Enters.{Enters}
-use Rattle.call_enter.proofs.Entering.{enter-two, enter-three, enter-four, enter-paid, payer-paid, plain-paid, enters-refused, enters-stopped, enters-on}
+use Rattle.call_enter.specs.Enters.{untold, entry_of}
+use Rattle.call_enter.proofs.Entering.{told-refused, enter-two, enter-three, enter-four, enter-paid, payer-paid, plain-paid}
 use Rattle.call_enter.proofs.entry.enter.Goals as goal
 use Rattle.call_enter.proofs.entry.enter.Goals.{In-Some, Else-not-running}
 
@@ -34,17 +32,19 @@ process c = running-process c.args.bytes.now c.args.links.now c.args.words.now _
 pub returns-then-not-in_range : goal.returns-then-not-in_range
 unfolding call_of
 returns-then-not-in_range c d long =
-    enters-refused OutOfRange (enter-two c.args.bytes.now c.args.links.now c.args.words.now
-    (call_of c.args.req d c.args.buffer c.args.scratch) (sym (c.if-not-in_range.ensures d long)))
+    told-refused OutOfRange c.from.ensures _ _
+    ∙ enter-two c.args.bytes.now c.args.links.now c.args.words.now
+    (call_of c.args.req d c.args.buffer c.args.scratch) (sym (c.if-not-in_range.ensures d long))
 
 -- no object has the caller's name, so slot 0 is the rules' caller
 pub returns-in_default : goal.returns-in_default
 unfolding call_of caller
 returns-in_default c d long =
     let a = c.args in
-    enters-refused NotRunning (enter-three a.bytes.now a.links.now a.words.now (call_of a.req d a.buffer a.scratch) 0
+    told-refused NotRunning c.from-in_default.ensures _ _
+    ∙ enter-three a.bytes.now a.links.now a.words.now (call_of a.req d a.buffer a.scratch) 0
     (sym (c.if-not-in_range.ensures d long)) (sym (slot_none _ (c.in_default.ensures a.words.now)))
-    (sym (running-data (view a.bytes.now a.links.now a.words.now) 0 (process-zero a.bytes.now a.links.now a.words.now 0 refl))))
+    (sym (running-data (view a.bytes.now a.links.now a.words.now) 0 (process-zero a.bytes.now a.links.now a.words.now 0 refl)))
 
 pub running-requires-clause-fact_2 : goal.running-requires-clause-fact_2
 running-requires-clause-fact_2 c = rw ((slot_of _ _ (c.in-Some.ensures c.args.words.now)).0) (found-high _ _)
@@ -53,9 +53,10 @@ pub returns-then-not-running : goal.returns-then-not-running
 unfolding call_of
 returns-then-not-running c d long =
     let a = c.args in
-    enters-refused NotRunning (enter-three a.bytes.now a.links.now a.words.now (call_of a.req d a.buffer a.scratch) c.in-Some.me
+    told-refused NotRunning c.from-then-not-running.ensures _ _
+    ∙ enter-three a.bytes.now a.links.now a.words.now (call_of a.req d a.buffer a.scratch) c.in-Some.me
     (sym (c.if-not-in_range.ensures d long)) (is-caller (goal.at.returns-then-not-running c).In-Some d)
-    (sym (c.if-not-running.ensures a.words.now)))
+    (sym (c.if-not-running.ensures a.words.now))
 
 pub pay-requires : goal.pay-requires
 pay-requires c =
@@ -66,10 +67,11 @@ unfolding call_of
 returns-in_err-pay c d long =
     let a = c.args in
     let at = (goal.at.returns-in_err-pay c).Else-not-running in
-    subst (λ r. Enters r c.pay.new.bytes c.pay.new.words (entry a.bytes.now a.links.now a.words.now (call_of a.req d a.buffer a.scratch)))
-    (let q = err_from_is_err_and _ c.from_residual.ensures.1 in sym (q.1 ∙ ap Err (q.2 ∙ c.in_err-pay.ensures.refusal)))
-    (enters-refused CannotPay (enter-four a.bytes.now a.links.now a.words.now (call_of a.req d a.buffer a.scratch) c.in-Some.me
-    (sym (c.if-not-in_range.ensures d long)) (is-caller (goal.at.returns-in_err-pay c).In-Some d) (runs at) _ c.fee_of-fee.ensures c.in_err-pay.ensures.slices refl))
+    let q = err_from_is_err_and _ c.from_residual.ensures.1 in
+    ap (λ r. entry_of r c.pay.new.bytes c.pay.new.words) q.1
+    ∙ told-refused CannotPay (q.2 ∙ ap untold c.in_err-pay.ensures.refusal) _ _
+    ∙ enter-four a.bytes.now a.links.now a.words.now (call_of a.req d a.buffer a.scratch) c.in-Some.me
+    (sym (c.if-not-in_range.ensures d long)) (is-caller (goal.at.returns-in_err-pay c).In-Some d) (runs at) _ c.fee_of-fee.ensures c.in_err-pay.ensures.slices refl
 
 pub show-requires-clause-plain : goal.show-requires-clause-plain
 show-requires-clause-plain c =
@@ -79,24 +81,10 @@ pub show-requires-clause-process : goal.show-requires-clause-process
 show-requires-clause-process c =
     payer-paid c.args.bytes.now c.args.links.now c.args.words.now _ (process (goal.at.show-requires-clause-process c).Else-not-running) _ c.in_ok-pay.ensures.slices refl
 
-pub returns-in_err-slot : goal.returns-in_err-slot
-unfolding call_of
-returns-in_err-slot c d long =
-    let a = c.args in
-    let q = err_from_is_err_and _ c.from_residual-in_err-slot.ensures.1 in
-    subst (λ r. Enters r c.pay.new.bytes c.pay.new.words (entry a.bytes.now a.links.now a.words.now (call_of a.req d a.buffer a.scratch)))
-    (sym (q.1 ∙ ap Err q.2))
-    (enters-stopped a.links.now c.in-Some.me _ _
-    (enter-paid a.bytes.now a.links.now a.words.now (call_of a.req d a.buffer a.scratch) c.in-Some.me
-    (sym (c.if-not-in_range.ensures d long)) (is-caller (goal.at.returns-in_err-slot c).In-Some d) (runs (goal.at.returns-in_err-slot c).Else-not-running) _
-    c.fee_of-fee.ensures c.in_ok-pay.ensures.slices refl)
-    c.in_err-slot.field-0.0 c.in_err-slot.ensures)
-
 pub returns : goal.returns
 unfolding call_of
 returns c d long =
     let a = c.args in
-    enters-on a.links.now c.in-Some.me _ _
-    (enter-paid a.bytes.now a.links.now a.words.now (call_of a.req d a.buffer a.scratch) c.in-Some.me
-    (sym (c.if-not-in_range.ensures d long)) (is-caller (goal.at.returns c).In-Some d) (runs (goal.at.returns c).Else-not-running) _ c.fee_of-fee.ensures c.in_ok-pay.ensures.slices refl)
-    c.in_ok-slot.slot c.in_ok-slot.ensures
+    c.show.ensures
+    ∙ enter-paid a.bytes.now a.links.now a.words.now (call_of a.req d a.buffer a.scratch) c.in-Some.me
+    (sym (c.if-not-in_range.ensures d long)) (is-caller (goal.at.returns c).In-Some d) (runs (goal.at.returns c).Else-not-running) _ c.fee_of-fee.ensures c.in_ok-pay.ensures.slices refl

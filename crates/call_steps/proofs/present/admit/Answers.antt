@@ -40,9 +40,10 @@ held c = found-held c.args.bytes.now c.args.links.now c.args.words.now c.args.me
 
 pub returns-in_default : goal.returns-in_default
 returns-in_default c =
+    let none = slot_none _ c.in_default.ensures in
     record {
-      slot = tt;
-      code = sym (showing-none (view c.args.bytes.now c.args.links.now c.args.words.now) _ c.args.right.0 (slot_none _ c.in_default.ensures));
+      slot = sym none;
+      code = sym (showing-none (view c.args.bytes.now c.args.links.now c.args.words.now) _ c.args.right.0 none);
     }
 
 pub expired-requires-clause-fact_2 : goal.expired-requires-clause-fact_2
@@ -52,7 +53,7 @@ pub returns-then-expired : goal.returns-then-expired
 returns-then-expired c =
     let at = (goal.at.returns-then-expired c).In-Some in
     record {
-      slot = tt;
+      slot = found at;
       code = shows at _ (showing-expired (view c.args.bytes.now c.args.links.now c.args.words.now) c.in-Some.k c.args.right.0 (some at)
           (late (goal.at.returns-then-expired c).After-expired ∙ c.if-expired.true));
     }
@@ -73,7 +74,7 @@ pub returns-else-right_held : goal.returns-else-right_held
 returns-else-right_held c =
     let at = (goal.at.returns-else-right_held c).In-Some in
     record {
-      slot = tt;
+      slot = found at;
       code = shows at _ (showing-missing (view c.args.bytes.now c.args.links.now c.args.words.now) c.in-Some.k c.args.right.0 (some at)
           (late (goal.at.returns-else-right_held c).After-expired ∙ c.if-expired.false) (rights (goal.at.returns-else-right_held c).After-right_held ∙ c.if-right_held.false));
     }
