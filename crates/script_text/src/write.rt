@@ -34,13 +34,20 @@ fn digits_in(n: u64) -> usize
     k
 }
 
-// The digits of n. The kit's writer goes back from their end.
+// The digits of n, from the last back.
 pub fn put_digits(out: &mut [u8], at: usize, n: u64) -> usize
     requires { at + length (numeral n) ≤ length out.old }
     ensures { Wrote out.old at (numeral n) out.new result }
 {
     let end = at + digits_in(n);
-    itoa::write_digits(n, out, end);
+    let mut i = end;
+    let mut rest = n;
+    while rest >= 10 {
+        i -= 1;
+        out[i] = 48 + (rest % 10) as u8;
+        rest /= 10;
+    }
+    out[at] = 48 + rest as u8;
     end
 }
 
