@@ -15,7 +15,7 @@ fn opening(line: &[u8], numbers: &mut [u32]) -> Option<First>
     ensures { Opens line.now result }
 {
     let count = read_line(line, numbers);
-    first_line(&numbers[..count])
+    first_line(&numbers[..count]).ok()
 }
 
 // "Line one is supply, p1, p2": true, and the store is fresh; or false, and no slice of it is written.
