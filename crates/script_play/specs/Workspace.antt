@@ -30,6 +30,12 @@ SizedIn w = Sized w.bytes.now w.links.now w.words.now
 abbrev pub StartsIn : List ℕ → Workspace → Workspace → Bool → Type 0
 StartsIn line w w' r = Starts line w.bytes.now w.links.now w.words.now w'.bytes.now w'.links.now w'.words.now r
 
+-- what is lent for a call is as it was
+pub record LentUnchanged (w w' : Workspace) : Type 0 where
+  pub text : w'.text.now ≡ w.text.now
+  pub buffer : w'.buffer.now ≡ w.buffer.now
+  pub scratch : w'.scratch.now ≡ w.scratch.now
+
 -- the same slices are lent, each as long as it was
 pub record StaysLent (w w' : Workspace) : Type 0 where
   pub bytes : w'.bytes.ghost_name ≡ w.bytes.ghost_name

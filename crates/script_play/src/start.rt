@@ -2,7 +2,7 @@
 ghost use Rattle.std.specs.Prelude.{◌≤◌, length};
 ghost use Rattle.script_text.specs.Lines.{most_numbers};
 ghost use Rattle.script_play.specs.Starts.{Opens};
-ghost use Rattle.script_play.specs.Workspace.{SizedIn, StartsIn, StaysLent};
+ghost use Rattle.script_play.specs.Workspace.{SizedIn, StartsIn, StaysLent, LentUnchanged};
 
 use crate::workspace::Workspace;
 use kernel_fresh::fresh;
@@ -24,6 +24,7 @@ pub fn start(room: &mut Workspace, line: &[u8]) -> bool
     requires numbers { most_numbers ≤ length room.old.numbers.now }
     ensures starts { StartsIn line.now room.old room.new result }
     ensures lent { StaysLent room.old room.new }
+    ensures unchanged { LentUnchanged room.old room.new }
 {
     match opening(line, room.numbers) {
         Some(first) => fresh(
