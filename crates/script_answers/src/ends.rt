@@ -1,16 +1,28 @@
-// The last line of the output.
-ghost use Rattle.std.specs.Prelude.{ℕ, List};
+// What is written for a bad line, line one among them, and the last line of the output.
+ghost use Rattle.std.specs.Prelude.{ℕ, ◌+◌, ◌≤◌, List, [], ◌∷◌, length};
+ghost use Rattle.rules.specs.Code as Code;
 ghost use Rattle.layout.specs.View.{view};
 ghost use Rattle.layout.specs.Sizes.{LinksWords};
 ghost use Rattle.check_money.specs.Amount.{MastersAre};
+ghost use Rattle.script_text.specs.Numeral.{line_of};
 ghost use Rattle.script_text.specs.Pasted.{Put};
-ghost use Rattle.script_answers.specs.Room.{TOTALS};
+ghost use Rattle.script_answers.specs.Room.{REFUSAL, TOTALS};
 ghost use Rattle.script_answers.specs.Ends.{totals_line, TotalsAsk};
 
 use check_money::{all_boxes, all_cash, money_at};
 use layout::HOUSE;
-use script_text::write::{put_after, put_byte};
+use script_text::write::{put_after, put_byte, put_line};
 use values::limit::MAX_CAPS;
+use values::refusal::Refusal;
+
+// "A bad line .. is answered 2"; of line one, whose number is 0, "`0 2` is all it writes".
+pub fn bad_line(out: &mut [u8], at: usize, number: u64) -> usize
+    requires { at + REFUSAL ≤ length out.old }
+    ensures { Put REFUSAL out.old at (line_of (number ∷ Code.out_of_range ∷ [])) out.new result }
+{
+    let others = [u32::from(Refusal::OutOfRange)];
+    put_line(out, at, number, &others)
+}
 
 // The masters' moneywords.
 fn all_masters(links: &[u16], words: &[u32]) -> u64

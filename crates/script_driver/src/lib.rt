@@ -10,8 +10,7 @@ pub mod line;
 
 use line::{ended, hold, one_line};
 use script_answers::answer::ANSWER;
-use script_answers::ends::totals_line;
-use script_play::line::bad_line;
+use script_answers::ends::{bad_line, totals_line};
 use script_play::workspace::Workspace;
 use script_text::lines::line_end;
 

@@ -1,9 +1,5 @@
 // A line after line one: its call is made and answered, and a bad line is answered 2.
-ghost use Rattle.std.specs.Prelude.{◌+◌, ◌≤◌, [], ◌∷◌, length, take};
-ghost use Rattle.rules.specs.Code as Code;
-ghost use Rattle.script_text.specs.Numeral.{line_of};
-ghost use Rattle.script_text.specs.Pasted.{Put};
-ghost use Rattle.script_answers.specs.Room.{REFUSAL};
+ghost use Rattle.std.specs.Prelude.{◌≤◌, length, take};
 ghost use Rattle.script_text.specs.Lines.{most_numbers};
 ghost use Rattle.script_play.specs.Plays.{Fits, Fitting};
 ghost use Rattle.script_play.specs.Workspace.{Works, Asks, PlayedIn, PlaysIn, StaysLent};
@@ -11,21 +7,11 @@ ghost use Rattle.script_play.specs.Workspace.{Works, Asks, PlayedIn, PlaysIn, St
 use crate::workspace::Workspace;
 use kernel_step::step;
 use script_answers::answer::answer_line;
+use script_answers::ends::bad_line;
 use script_lines::fits::line_fits;
 use script_lines::request::request_of;
 use script_lines::text::text_of;
 use script_text::read::read_line;
-use script_text::write::put_line;
-use values::refusal::Refusal;
-
-// "A bad line .. is answered 2"; of line one, whose number is 0, "`0 2` is all it writes".
-pub fn bad_line(out: &mut [u8], at: usize, number: u64) -> usize
-    requires { at + REFUSAL ≤ length out.old }
-    ensures { Put REFUSAL out.old at (line_of (number ∷ Code.out_of_range ∷ [])) out.new result }
-{
-    let others = [u32::from(Refusal::OutOfRange)];
-    put_line(out, at, number, &others)
-}
 
 // The numbers of a line that fits its call, into the front of `numbers`, and how many they are; none for a bad line.
 fn fitting(line: &[u8], numbers: &mut [u32]) -> Option<usize>
