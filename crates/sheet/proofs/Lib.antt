@@ -1,2 +1,3 @@
--- the loop over the lines of a window, and the loop over the turns
+-- the loop over the lines of a window, the loop over the turns, and the output buffer
 pub mod Going
+pub mod Keeping

@@ -3,15 +3,14 @@ ghost use Rattle.std.specs.Prelude.{◌≡◌};
 ghost use Rattle.script_play.specs.Workspace.{StaysLent};
 ghost use Rattle.sheet.specs.Runs.{LineAsks, RunDone};
 
+use crate::output::Output;
 use script_answers::answer::ANSWER;
 use script_driver::{Run, feed};
 use script_play::workspace::Workspace;
+use script_text::lines::line_end;
 use sheet_draw::ended::{Ended, Ending, Living};
 use sheet_draw::store::Store;
-use std::io::{BufWriter, Stdout, Write};
-
-// What is drawn goes out by the buffer.
-pub type Output = BufWriter<Stdout>;
+use std::fmt::Write;
 
 // The call of a line after line one that may end capabilities: its digit stands before a space. The line is what is
 // held of it, and then what the window has.
@@ -68,7 +67,7 @@ fn one_line(
             line: begun.number,
             call: *call,
         };
-        // a failed write is passed over, and the run goes on
+        // the output takes all text
         let _ = write!(out, "{ended}");
     }
     fed.run
@@ -87,8 +86,12 @@ pub fn play_window(
     ensures lent { StaysLent room.old room.new }
 {
     let mut run = begun;
-    for line in window.split_inclusive(|byte| *byte == b'\n') {
+    let mut rest = window;
+    while !rest.is_empty() {
+        let end = line_end(rest, 0, rest.len());
+        let (line, later) = rest.split_at(end.saturating_add(1).min(rest.len()));
         run = one_line(room, held, line, out, run);
+        rest = later;
     }
     run
 }

@@ -6,17 +6,20 @@ ghost use Rattle.std.specs.Prelude.{◌≤◌, length};
 ghost use Rattle.sheet.specs.Runs.{Begins};
 
 mod lines;
+mod output;
 
 use kernel_fresh::fresh;
 use layout::{BYTES, LINKS, WORDS};
-use lines::{Output, drawn, play_window};
+use lines::{drawn, play_window};
+use output::Output;
 use script_driver::Run;
 use script_driver::line::HELD;
 use script_play::workspace::Workspace;
 use script_text::lines::NUMBERS;
 use sheet_draw::draw::Objects;
 use sheet_draw::store::Store;
-use std::io::{self, BufWriter, Read, Stdin, Write};
+use std::fmt::{self, Write};
+use std::io::{Read, Stdin};
 use values::limit::{MIN_BUFFER, MIN_SCRATCH};
 
 // So many turns, of 65,536 bytes at most, that no run uses them up, and that their lines can be counted in 64 bits.
@@ -63,18 +66,15 @@ fn play_all(
 }
 
 // "Line one .. if bad or absent, `0 2` is all it writes"; else the objects.
-fn put_end(store: Store<'_>, out: &mut Output, run: Run) -> io::Result<()> {
+fn put_end(store: Store<'_>, out: &mut Output, run: Run) -> fmt::Result {
     if run.number == 0 {
-        writeln!(out, "0 2")?;
-    } else {
-        let objects = Objects(store);
-        write!(out, "{objects}")?;
+        return writeln!(out, "0 2");
     }
-    out.flush()
+    let objects = Objects(store);
+    write!(out, "{objects}")
 }
 
-// The whole run, from the input to the output.
-fn run(stdin: Stdin, mut out: Output) {
+fn main(rt: HostRuntime) {
     let mut bytes = [0u8; BYTES];
     let mut links = [0u16; LINKS];
     let mut words = [0u32; WORDS];
@@ -84,6 +84,7 @@ fn run(stdin: Stdin, mut out: Output) {
     let mut scratch = [0u16; MIN_SCRATCH];
     let mut held = [0u8; HELD];
     let mut input = [0u8; 65536];
+    let mut out = Output::new(rt.stdout());
     // a store with no money, until line one says what it holds
     let _ = fresh(0, [0, 0], &mut bytes, &mut links, &mut words);
     let mut room = Workspace {
@@ -95,19 +96,8 @@ fn run(stdin: Stdin, mut out: Output) {
         buffer: &mut buffer,
         scratch: &mut scratch,
     };
-    let last = play_all(&mut room, &mut held, stdin, &mut input, &mut out);
-    // what cannot be written is left out, and nothing comes after it
+    let last = play_all(&mut room, &mut held, rt.stdin(), &mut input, &mut out);
+    // the output takes all text
     let _ = put_end(drawn(&room), &mut out, last);
-}
-
-// A buffer before what is written; where there is no memory for it, each piece is written as it comes.
-fn output(rt: &HostRuntime) -> Output {
-    match BufWriter::with_capacity(rt.alloc(), 65536, rt.stdout()) {
-        Ok(out) => out,
-        Err(_) => BufWriter::with_capacity(rt.alloc(), 0, rt.stdout()).unwrap(),
-    }
-}
-
-fn main(rt: HostRuntime) {
-    run(rt.stdin(), output(&rt));
+    out.write_out();
 }
