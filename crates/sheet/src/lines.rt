@@ -41,7 +41,43 @@ pub(crate) fn drawn<'a>(room: &'a Workspace<'a>) -> Store<'a>
     }
 }
 
-// A line that ends with the window, or a part of one. Its answer is not shown; what it ended is.
+// A line that ends with the window, or a part of one. Its answer is not shown.
+fn play_line(room: &mut Workspace, held: &mut [u8], window: &[u8], begun: Run) -> Run
+    requires { LineAsks room.old held.old window.now begun }
+    ensures done { RunDone room.new held.new window.now begun result }
+    ensures lent { StaysLent room.old room.new }
+{
+    let mut answer = [0u8; ANSWER];
+    let run = Run { at: 0, ..begun };
+    feed(room, held, window, &mut answer, run).run
+}
+
+// A line of a call that may end capabilities: what it ended is shown.
+fn ending_line(
+    room: &mut Workspace,
+    held: &mut [u8],
+    window: &[u8],
+    out: &mut Output,
+    begun: Run,
+    call: Ending,
+) -> Run
+    requires { LineAsks room.old held.old window.now begun }
+    ensures done { RunDone room.new held.new window.now begun result }
+    ensures lent { StaysLent room.old room.new }
+{
+    let before = Living::of(drawn(room));
+    let run = play_line(room, held, window, begun);
+    let ended = Ended {
+        before: &before,
+        after: drawn(room),
+        line: begun.number,
+        call,
+    };
+    // the output takes all text
+    let _ = write!(out, "{ended}");
+    run
+}
+
 fn one_line(
     room: &mut Workspace,
     held: &mut [u8],
@@ -53,24 +89,10 @@ fn one_line(
     ensures done { RunDone room.new held.new window.now begun result }
     ensures lent { StaysLent room.old room.new }
 {
-    let mut answer = [0u8; ANSWER];
-    let ending = match ending_call(begun.number, &held[..begun.count], window) {
-        Some(call) => Some((call, Living::of(drawn(room)))),
-        None => None,
-    };
-    let run = Run { at: 0, ..begun };
-    let fed = feed(room, held, window, &mut answer, run);
-    if let Some((call, before)) = &ending {
-        let ended = Ended {
-            before,
-            after: drawn(room),
-            line: begun.number,
-            call: *call,
-        };
-        // the output takes all text
-        let _ = write!(out, "{ended}");
+    match ending_call(begun.number, &held[..begun.count], window) {
+        Some(call) => ending_line(room, held, window, out, begun, call),
+        None => play_line(room, held, window, begun),
     }
-    fed.run
 }
 
 // The lines of a window, in turn.
