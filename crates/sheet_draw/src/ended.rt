@@ -98,10 +98,10 @@ impl Ended<'_, '_> {
     // It lived before, and now its slot is free or has another password.
     fn ended(&self, cap: usize) -> Option<Noted> {
         let noted = self.before.0.get(cap).copied().flatten()?;
-        match Noted::of(self.after, cap) {
-            Some(now) if now.p1 == noted.p1 && now.p2 == noted.p2 => None,
-            _ => Some(noted),
-        }
+        let lives = self.after.linked(layout::OWNER, cap).is_some()
+            && self.after.word(layout::P1, cap) == noted.p1
+            && self.after.word(layout::P2, cap) == noted.p2;
+        if lives { None } else { Some(noted) }
     }
 }
 
