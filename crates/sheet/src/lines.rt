@@ -65,7 +65,8 @@ fn ending_line(
     ensures done { RunDone room.new held.new window.now begun result }
     ensures lent { StaysLent room.old room.new }
 {
-    let before = Living::of(drawn(room));
+    let mut before = Living::NOTHING;
+    before.note_all(drawn(room));
     let run = play_line(room, held, window, begun);
     let ended = Ended {
         before: &before,

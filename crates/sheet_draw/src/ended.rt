@@ -3,7 +3,7 @@
 ghost use Rattle.std.specs.Prelude.{◌≡◌, ◌≢◌};
 
 use crate::store::Store;
-use std::{array, fmt};
+use std::fmt;
 use values::limit::MAX_CAPS;
 
 // The cells of a row of capabilities: slot 0 is no capability's.
@@ -79,8 +79,14 @@ impl fmt::Display for Noted {
 pub struct Living([Option<Noted>; SLOTS]);
 
 impl Living {
-    pub fn of(store: Store<'_>) -> Living {
-        Living(array::from_fn(|cap| Noted::of(store, cap)))
+    // Nothing lives.
+    pub const NOTHING: Living = Living([None; SLOTS]);
+
+    // Notes each capability that lives in the store, where it is: a value that is handed back would be copied.
+    pub fn note_all(&mut self, store: Store<'_>) {
+        for (cap, noted) in self.0.iter_mut().enumerate() {
+            *noted = Noted::of(store, cap);
+        }
     }
 }
 
