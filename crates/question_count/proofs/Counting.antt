@@ -83,7 +83,7 @@ module _ (b l w : List ℕ) (i o right : ℕ) where
       rw (does-live (view b l w) i (λ z. nz (sym q ∙ z)), eq-eqb ((view b l w).cap i).object o q, h)
 
 -- ---- slots are counted, of n at most n
-one-most : (t : Bool) → one t ≤ 1
+pub one-most : (t : Bool) → one t ≤ 1
 unfolding one
 one-most true = omega arith
 one-most false = omega arith
