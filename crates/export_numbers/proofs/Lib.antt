@@ -1,0 +1,2 @@
+-- The two ways that each function for C goes.
+pub mod Making
