@@ -35,9 +35,12 @@ fn number(digits: &str) -> Option<u32> {
     digits.replace([',', '_'], "").parse().ok()
 }
 
-/// By names without case and underscores: an answer is `NotFound` in the code, `NOT_FOUND` in the reference.
-fn plain(named: BTreeMap<&str, u32>) -> BTreeMap<String, u32> {
-    named.into_iter().map(|(name, n)| (name.replace('_', "").to_lowercase(), n)).collect()
+/// An answer's name in the code: `NOT_FOUND` is `NotFound` there, and `DONE` a constant.
+fn in_code(name: &str) -> String {
+    if name == "DONE" {
+        return name.to_string();
+    }
+    name.split('_').map(|word| word[..1].to_string() + &word[1..].to_lowercase()).collect()
 }
 
 #[test]
@@ -77,17 +80,19 @@ fn rights_answers_and_limits() {
     assert_eq!(named, rights);
     let mut said = BTreeMap::new();
     for row in rows("### Answers") {
-        said.extend(number(row[0]).map(|n| (row[1], n)));
+        said.extend(number(row[0]).map(|n| (row[1].to_string(), n)));
     }
     assert_eq!(said.len(), 22);
     for row in rows("### Limits").iter().skip(2) {
         let numbers = row[1].split(", ").map(|n| number(n).expect("a number"));
-        said.extend(row[0].split(", ").zip(numbers));
+        said.extend(row[0].split(", ").map(str::to_string).zip(numbers));
     }
-    let mut ours = constants(outer);
+    let (answers, limits) = outer.split_once("pub enum Refusal").expect("the refusals");
+    let mut ours: BTreeMap<_, _> =
+        constants(answers).into_iter().map(|(name, n)| (in_code(name), n)).collect();
+    ours.extend(constants(limits).into_iter().map(|(name, n)| (name.to_string(), n)));
     ours.remove("MAX_LINE");
-    assert_eq!(said.len(), ours.len());
-    assert_eq!(plain(said), plain(ours));
+    assert_eq!(said, ours);
 }
 
 /// Each table of script lines has beside them what the reference writes; the first is the example.
